@@ -49,7 +49,7 @@ module _ (initial : List ℕ) (operations : List Operation) where
 
 -- ---- a line of the history
 
--- a line of an initial value or an operation among those of a history is of one of its own
+-- a line of an initial value in a history is of one of its own
 pub value_among : (initial : List ℕ) (operations : List Operation) (v : ℕ) → Contains (lines_of_history initial operations) (Initial v) → Contains initial v
 value_among initial operations v among = elim (Contains-append_cases (map Initial initial) (map Op operations) (Initial v) among) [
   | inl here ↦

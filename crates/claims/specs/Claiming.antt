@@ -64,7 +64,7 @@ lines_at initial operations places = filter_map (line_at initial operations) pla
 abbrev pub operations_at : List Operation → List ℕ → List Operation
 operations_at operations places = filter_map (slice_get operations) places
 
--- what a verdict on a history claims: a `YES` the operations at its places, a `NO` the lines at its places
+-- the claim of a verdict on a history: for a `YES` the operations at its places, for a `NO` the lines at its places
 abbrev pub claim_of : List ℕ → List Operation → Verdict → Claimed
 claim_of initial operations (Yes places) = claimed.Yes (operations_at operations places)
 claim_of initial operations (No violation) = claimed.No (violation_kind violation) (lines_at initial operations (violation_places violation))

@@ -1,4 +1,4 @@
--- What is claimed of a history, and when that is so.
+-- Claims about a history, and when they are true.
 use Rattle.std.specs.Prelude.{ℕ, List}
 use Rattle.history_merge.specs.declared.operation.Operation.{Operation}
 use Rattle.history_merge.specs.Legal.{IsLegalOrder}

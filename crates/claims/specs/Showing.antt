@@ -1,4 +1,5 @@
--- Which lines show a violation of a history. A line is an operation, or an initial value, which counts as enqueued before all else.
+-- When lines show a violation of a history. A line is an operation, or an initial value, which counts as enqueued
+-- before all else.
 use Rattle.std.specs.Prelude.{◌≡◌, ◌<◌, ◌⊎◌, ⊤, ℕ, List, [], ◌∷◌, Contains, Some, slice_get}
 use Rattle.history_merge.specs.declared.operation.Operation.{Operation}
 use Rattle.history_merge.specs.declared.operation.OpKind.{OpKind}
@@ -9,20 +10,21 @@ use Rattle.claims.specs.declared.claimed.ClaimLine.TheVariants.{Op, Initial}
 use Rattle.claims.specs.declared.claimed.ViolationKind.{ViolationKind}
 use Rattle.claims.specs.declared.claimed.ViolationKind.TheVariants.{VFresh, VOrd, VRepeat, VWit}
 
--- the line is an operation that did this, or an initial value that this enqueues
+-- the line is an operation of this kind, or an initial value that this kind enqueues
 abbrev pub LineDid : List ℕ → List Operation → ClaimLine → OpKind → Type 0
 LineDid initial operations (Op o) kind = Did operations o kind
 LineDid initial operations (Initial v) kind = Contains initial v × (kind ≡ Enq v)
 
--- no operation did this, and no initial value
+-- no operation is of this kind, and no initial value is enqueued by it
 abbrev pub NoLineDid : List ℕ → List Operation → OpKind → Type 0
 NoLineDid initial operations kind = (line : ClaimLine) → ¬ (LineDid initial operations line kind)
 
--- the first value stands before the second
+-- the first value comes before the second
 abbrev pub ComesBefore : List ℕ → ℕ → ℕ → Type 0
 ComesBefore values v w = (i : ℕ) × (j : ℕ) × (i < j) × (slice_get values i ≡ Some v) × (slice_get values j ≡ Some w)
 
--- operations precede one another by their tickets; initial values precede all operations, and one another in their order
+-- the order of lines: operations by their tickets, initial values before all operations, and among one another in
+-- their order
 abbrev pub LinePrecedes : List ℕ → ClaimLine → ClaimLine → Type 0
 LinePrecedes initial (Op x) (Op y) = Precedes x y
 LinePrecedes initial (Op x) (Initial w) = ⊥
@@ -34,7 +36,7 @@ abbrev pub ReturnsFirst : ClaimLine → ClaimLine → Type 0
 ReturnsFirst (Op x) (Op y) = x.ret < y.ret
 ReturnsFirst _ _ = ⊥
 
--- a dequeue of a value that was not there, with the value's enqueue, successful or failed, if the history has one
+-- a phantom dequeue, with the call to enqueue its value, successful or failed, if the history has one
 abbrev pub ShowsFresh : List ℕ → List Operation → List ClaimLine → Type 0
 ShowsFresh initial operations (deq ∷ []) =
     (v : ℕ) × LineDid initial operations deq (Deq v) × NoLineDid initial operations (Enq v) × NoLineDid initial operations (Not v)
@@ -48,25 +50,25 @@ ShowsRepeat initial operations (enq ∷ first ∷ second ∷ []) = (v : ℕ) × 
     × LineDid initial operations first (Deq v) × LineDid initial operations second (Deq v) × ReturnsFirst first second
 ShowsRepeat initial operations _ = ⊥
 
--- the value's dequeue, which the line given precedes; or no line, where the value is never dequeued
+-- the value's dequeue, which the given line precedes; or no line, if the value is never dequeued
 abbrev pub LeavesAfter : List ℕ → List Operation → ClaimLine → ℕ → List ClaimLine → Type 0
 LeavesAfter initial operations line v [] = NoLineDid initial operations (Deq v)
 LeavesAfter initial operations line v (deq ∷ []) = LineDid initial operations deq (Deq v) × LinePrecedes initial line deq
 LeavesAfter initial operations line v _ = ⊥
 
--- the enqueue of a, the later one of b, the dequeue of b, and the dequeue of a, which comes after it, if there is one
+-- the enqueue of a, the later enqueue of b, the dequeue of b, and the dequeue of a after it, if there is one
 abbrev pub ShowsOrder : List ℕ → List Operation → List ClaimLine → Type 0
 ShowsOrder initial operations (enq_a ∷ enq_b ∷ deq_b ∷ deq_a) = (a : ℕ) × (b : ℕ) × LineDid initial operations enq_a (Enq a)
     × LineDid initial operations enq_b (Enq b) × LineDid initial operations deq_b (Deq b) × LinePrecedes initial enq_a enq_b
     × LeavesAfter initial operations deq_b a deq_a
 ShowsOrder initial operations _ = ⊥
 
--- the line enqueues the value, and precedes another
+-- the line `enq` enqueues the value, and precedes the other
 abbrev pub EnqueuedBefore : List ℕ → List Operation → ClaimLine → ClaimLine → ℕ → Type 0
 EnqueuedBefore initial operations line enq v = LineDid initial operations enq (Enq v) × LinePrecedes initial enq line
 
--- the first value is enqueued before the line given; while there is a next value, this one is dequeued, and the next is enqueued
--- before that; and the last value is dequeued after the empty answer, or never
+-- the first value is enqueued before the given line; each value but the last is dequeued, and the next one is
+-- enqueued before that; the last value is dequeued after the empty dequeue, or never
 abbrev pub LinesCover : List ℕ → List Operation → ClaimLine → ClaimLine → List ClaimLine → Type 0
 LinesCover initial operations empty line [] = ⊥
 LinesCover initial operations empty line (enq ∷ []) =
@@ -76,7 +78,7 @@ LinesCover initial operations empty line (enq ∷ deq ∷ []) =
 LinesCover initial operations empty line (enq ∷ deq ∷ next ∷ rest) =
     (v : ℕ) × EnqueuedBefore initial operations line enq v × LineDid initial operations deq (Deq v) × LinesCover initial operations empty deq (next ∷ rest)
 
--- an empty answer, and values of which one or another was in the queue all the time
+-- an empty dequeue, and values of which one or another was in the queue all the time
 abbrev pub ShowsWitness : List ℕ → List Operation → List ClaimLine → Type 0
 ShowsWitness initial operations [] = ⊥
 ShowsWitness initial operations (empty ∷ cover) = LineDid initial operations empty Empty × LinesCover initial operations empty empty cover

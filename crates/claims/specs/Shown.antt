@@ -1,4 +1,4 @@
--- What a violation names, in the order in which it is shown.
+-- The places that a violation names, in the order in which they are shown.
 use Rattle.std.specs.Prelude.{ℕ, List, [], ◌∷◌, Option, flat_map, option_map, option_to_list}
 use Rattle.value_match.specs.declared.violation.CoverStep.{CoverStep}
 use Rattle.value_match.specs.declared.life.Source.{Source}

@@ -1,38 +1,38 @@
 use event_records::OwnedSlice;
 use history_merge::Operation;
 
-/// The operations of a `YES` as it lists them, seen as a list. Any operations may stand in it.
+/// The lines of a `YES`, seen as a list. Any operations may be listed.
 pub type Lines = OwnedSlice<Operation>;
 
-/// What a line of a `NO` shows.
+/// A line of a `NO`.
 #[derive(Clone, Copy, Debug, PartialEq, Eq)]
 pub enum ClaimLine {
     /// An operation.
     Op(Operation),
-    /// A value that the queue holds first. It stands where a successful enqueue of it would stand.
+    /// An initial value of the queue, in place of a successful enqueue of it.
     Initial(u64),
 }
 
-/// The lines of a `NO`, seen as a list. Any lines may stand in it.
+/// The lines of a `NO`, seen as a list. Any lines may be listed.
 pub type ClaimLines = OwnedSlice<ClaimLine>;
 
 /// The kinds of violation, by the names that verdicts print.
 #[derive(Clone, Copy, Debug, PartialEq, Eq)]
 pub enum ViolationKind {
-    /// A dequeue of a value that was not there.
+    /// A phantom dequeue: its value was not in the queue.
     VFresh,
     /// A value dequeued twice.
     VRepeat,
     /// Two values dequeued against the order of their enqueues.
     VOrd,
-    /// An empty answer while some value was in the queue all the time.
+    /// An empty dequeue while some value was in the queue all the time.
     VWit,
 }
 
-/// A verdict as somebody claims it. It need not be true, nor speak of operations that exist.
+/// A verdict that somebody claims. It may be false, and may name operations that don't exist.
 #[derive(Debug, Drop)]
 pub enum Claimed {
-    /// The operations in a linearization.
+    /// All operations, in the order of a linearization.
     Yes(Lines),
     /// The lines that show a violation of this kind, in this order, where the enqueue of an initial value is the line of
     /// that value:

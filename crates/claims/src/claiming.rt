@@ -9,10 +9,10 @@ use history_merge::{History, OpId, Operation, Operations};
 use std::alloc::{AllocError, Global};
 use value_match::Violation;
 
-/// What a verdict claims: its operations and initial values themselves, in the order in which its text lists them.
+/// Returns the claim of a verdict: its operations and initial values, in the order in which its text lists them.
 ///
-/// The claim needs no places of this history any more, so it can be verified by itself, or against another history.
-/// Time and memory linear in the verdict. `AllocError` comes only where a growth was refused.
+/// The claim no longer needs the places of this history, so it can be verified by itself, or against another history.
+/// Time and memory are linear in the verdict. The only error is out of memory.
 pub fn claim(alloc: Global, history: &History, verdict: &Verdict) -> Result<Claimed, AllocError>
     // The verdict's places are those of operations and initial values of this history.
     requires places { IsWithin history.now.initial (operations_of history.now.events) verdict.now }
@@ -30,7 +30,7 @@ pub fn claim(alloc: Global, history: &History, verdict: &Verdict) -> Result<Clai
     }
 }
 
-/// The operations at these places.
+/// Returns the operations at these places.
 fn operations_at(
     alloc: Global,
     operations: &Operations<'_>,
@@ -47,9 +47,9 @@ fn operations_at(
     Ok(listed)
 }
 
-/// Returns the lines of a violation of this history, in the order in which they are shown: those of the places that it names.
+/// Returns the lines of a violation of this history, in the order in which they are shown.
 ///
-/// Time and memory linear in the violation. `AllocError` comes only where a growth was refused.
+/// Takes time and memory linear in the violation. `AllocError` comes only if a growth was refused.
 pub fn violation_lines(
     alloc: Global,
     history: &History,
@@ -66,7 +66,7 @@ pub fn violation_lines(
     )
 }
 
-/// The lines at these places.
+/// Returns the lines at these places.
 fn lines_at(
     alloc: Global,
     initial: &[u64],
@@ -84,7 +84,7 @@ fn lines_at(
     Ok(listed)
 }
 
-/// The kind of a violation.
+/// Returns the kind of a violation.
 fn kind_of(violation: &Violation) -> ViolationKind
     ensures { result ≡ violation_kind violation.now }
 {

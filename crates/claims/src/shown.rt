@@ -8,7 +8,7 @@ use history_merge::{OpId, Operations};
 use std::alloc::{AllocError, Global};
 use value_match::{Cover, Source, Violation};
 
-/// Where a line of a verdict is found: by a place among the operations of a history, or among its initial values.
+/// The place of a verdict's line, among the operations of a history or among its initial values.
 #[derive(Clone, Copy)]
 pub enum LinePlace {
     /// The operation at this place.
@@ -32,7 +32,7 @@ impl From<Source> for LinePlace {
 }
 
 impl LinePlace {
-    /// The line at this place of these initial values and operations, if there is one.
+    /// Returns the line at this place among these initial values and operations, if there is one.
     pub fn line(self, initial: &[u64], operations: &Operations<'_>) -> Option<ClaimLine>
         ensures { result ≡ line_at initial.now operations.now self }
     {
@@ -43,7 +43,7 @@ impl LinePlace {
     }
 }
 
-/// The places that a violation names, in the order in which they are shown.
+/// Returns the places that a violation names, in the order in which they are shown.
 pub(crate) fn violation_places(
     alloc: Global,
     violation: &Violation,
@@ -55,7 +55,7 @@ pub(crate) fn violation_places(
     Ok(places)
 }
 
-/// The places that a violation of this kind always names.
+/// Returns the places that a violation of this kind always names.
 fn first_places(alloc: Global, violation: &Violation) -> Result<Vec<LinePlace>, AllocError>
     ensures { IfOk result (λ places. places.items ≡ first_places violation.now) }
 {
@@ -86,7 +86,7 @@ fn first_places(alloc: Global, violation: &Violation) -> Result<Vec<LinePlace>, 
     }
 }
 
-/// The places that follow these: of an operation that may be missing, or of a cover.
+/// Appends the later places: of an operation that may be missing, or of a cover.
 fn push_later_places(violation: &Violation, places: &mut Vec<LinePlace>) -> Result<(), AllocError>
     ensures { OnOk result (places.new.items ≡ places.old.items ++ later_places violation.now) }
 {
@@ -108,7 +108,7 @@ fn push_maybe(place: Option<OpId>, places: &mut Vec<LinePlace>) -> Result<(), Al
     Ok(())
 }
 
-/// The places of the values of a cover, value by value.
+/// Appends the places of a cover's values, value by value.
 fn push_cover(cover: &Cover, places: &mut Vec<LinePlace>) -> Result<(), AllocError>
     ensures { OnOk result (places.new.items ≡ places.old.items ++ flat_map places_of_step cover.now) }
 {

@@ -5,11 +5,11 @@ use value_match::Violation;
 /// Operations in an order, seen as the list of their places among the operations of the history, from 0.
 pub type Order = OwnedSlice<OpId>;
 
-/// Whether a history is linearizable, with evidence.
+/// The answer whether a history is linearizable, with evidence.
 #[derive(Debug, Drop)]
 pub enum Verdict {
-    /// It is, and this order of its operations is legal.
+    /// It is linearizable, and this order of its operations is a linearization.
     Yes(Order),
-    /// It is not, and these of its operations and initial values show why.
+    /// It isn't, as these of its operations and initial values show.
     No(Violation),
 }

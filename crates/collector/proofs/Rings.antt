@@ -1,4 +1,4 @@
--- Which rings a round and a seal are of.
+-- The rings of a round and of a seal.
 use Rattle.std.proofs.Common.{◌≡◌, ℕ, List, [], ◌∷◌, refl, ap}
 use Rattle.std.specs.List.{AllZip}
 use Rattle.event_rings.specs.Ring.{DrainView, TokenView}
@@ -20,7 +20,7 @@ fits_each (d ∷ ds) (t ∷ ts) e =
     let one = head_same (t.ring, t.thread) (d.ring, d.thread) _ _ e in
     ((λ _. ap (λ p. p.0) one), fits_each ds ts (tail_same (t.ring, t.thread) (d.ring, d.thread) _ _ e))
 
--- a round leaves the ends of the same rings
+-- a round keeps the rings of the ends
 pub rings_kept : (max : ℕ) (before after : List DrainView) → AllZip (Drains max) before after → rings_of after ≡ rings_of before
 rings_kept max [] [] z = refl
 rings_kept max [] (a ∷ rest) z = absurd z

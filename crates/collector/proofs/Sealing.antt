@@ -1,4 +1,4 @@
--- How far the seal has come.
+-- The progress of the seal.
 use Rattle.std.proofs.Common.{◌≡◌, ℕ, suc, ◌+◌, List, [], ◌∷◌, ◌++◌, length, map, refl, ap, sym, subst, ◌∙◌, arith, append_assoc, length-append}
 use Rattle.std.proofs.Common.{add-one, append-nil}
 use Rattle.std.proofs.lemmas.List.{map-append}
@@ -10,7 +10,7 @@ use Rattle.tickets.proofs.Rising.{range-push}
 use Rattle.std.proofs.lemmas.Slice.Zip.{AllZip-long}
 use Rattle.collector.specs.Ends.{Fits, AreInOrder, IsFirstForeign, AreOwnUpTo, threads_of, threads_of_tokens}
 
--- the tokens that were used are of their places' threads, and the lists so far are all that they tell
+-- the tokens used so far are of their places' threads, and the lists so far are all that they name
 pub record IsSealing (tokens : List TokenView) (rings : List DrainView) (left : List TokenView) (lists : List (List Event)) : Type 0 where
   pub done : List TokenView
   pub tokens_are : tokens ≡ done ++ left
@@ -33,7 +33,7 @@ module _ (tokens : List TokenView) (rings rings' : List DrainView) (left left' :
   own_place : r.thread ≡ length p.done
   own_place = head_same _ _ _ _ ordered
 
-  -- a ring that its token seals is one more that is sealed
+  -- one more ring is sealed by its token
   pub seals_next : (events : List Event) → events ≡ t.sent → t.thread ≡ r.thread → IsSealing tokens rings' left' (lists ++ events ∷ [])
   seals_next events all own = record {
     done = p.done ++ t ∷ [];

@@ -1,4 +1,4 @@
-// One thread's ring, with what was drained from it.
+// The ring of one thread, with the events drained from it.
 ghost use Rattle.std.specs.Prelude.{◌≡◌, ◌≢◌, ◌≤◌, ◌<◌, ◌+◌, IfOk, IfErr, OnErr, [], length};
 ghost use Rattle.collector.specs.Ends.{Fits, Drains};
 ghost use Rattle.event_rings.specs.declared.drain_end.FinishFault.TheVariants.{Uncertified, Memory};
@@ -9,7 +9,7 @@ use event_rings::{CloseToken, DrainEnd, FinishFault};
 use std::alloc::{AllocError, Global};
 use std::marker::Model;
 
-/// One thread's ring, with all that was drained from it, oldest first.
+/// The ring of one thread, with all events drained from it, oldest first.
 #[derive(Drop)]
 pub(crate) struct Drained {
     end: DrainEnd,
@@ -41,7 +41,7 @@ impl Drained {
         Ok(Drained { end, events })
     }
 
-    // Returns the thread whose ring it is.
+    // Returns the thread of the ring.
     pub(crate) fn thread(&self) -> u8
         ensures value { result ≡ self.now.thread }
         ensures small { result < MAX_THREADS }
@@ -49,7 +49,7 @@ impl Drained {
         self.end.thread().get()
     }
 
-    // Drains at most `max` events, and returns how many. There is room for them before any leaves the ring.
+    // Drains at most `max` events, and returns their number. Memory for them is reserved before any leaves the ring.
     pub(crate) fn drain(&mut self, max: usize) -> Result<u64, AllocError>
         requires { max ≤ MAX_RING }
         ensures drains { Drains max self.old self.new }
@@ -61,7 +61,7 @@ impl Drained {
         Ok(drained as u64)
     }
 
-    // Returns all that the thread pushed, certified by its close token.
+    // Returns all events that the thread pushed, certified by its close token.
     pub(crate) fn seal(self, token: CloseToken) -> Result<Vec<Event>, FinishFault>
         requires { Fits self token }
         ensures sealed { IfOk result (λ events. events.items ≡ token.sent) }

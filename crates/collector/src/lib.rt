@@ -1,7 +1,7 @@
 //! Drains the rings of all threads while they push, and seals them once they are closed.
 //!
-//! Nothing here takes a lock or waits. A sealed list is all that its thread pushed, in order, however much was
-//! drained before.
+//! Nothing here takes a lock or waits. A sealed list has all events that its thread pushed, in order, however many
+//! were drained before.
 #![tactic(auto)]
 
 mod drained;

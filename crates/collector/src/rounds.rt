@@ -13,9 +13,10 @@ use std::alloc::{AllocError, Global};
 use std::marker::Model;
 use thiserror::Error;
 
-/// Drains the rings of threads 0, 1, 2 and on, and keeps what it drained.
+/// A collector of the events in the rings of threads 0, 1, 2 and so on.
 ///
-/// Contracts see the list of the drain ends, each with all that was received from it, and whether a round was refused.
+/// Contracts see the list of the drain ends, each with all that was received from it, and whether a round ran out of
+/// memory.
 #[derive(Drop)]
 pub struct Collector {
     alloc: Global,
@@ -33,10 +34,11 @@ impl Model for Collector {
     ghost invariant = { λ c. AreInOrder c.rings.items };
 }
 
-/// Why the rings were not sealed. No list is given, and the rings are gone.
+/// The reason why the rings were not sealed. There are no lists then, and the rings are gone.
 #[derive(Debug, Drop, Error)]
 pub enum CollectError {
-    /// There was no memory for the list of some thread. The tokens up to that thread's are of their places' threads.
+    /// There was no memory for the list of some thread. The tokens up to that thread's are of the threads of their
+    /// places.
     #[error("Memory")]
     Memory,
     /// The token at this thread's place is of another thread's ring, and no token before it is.
@@ -45,7 +47,7 @@ pub enum CollectError {
 }
 
 impl Collector {
-    /// Makes a collector of the rings of threads 0, 1, 2 and on, from which nothing was drained yet.
+    /// Makes a collector of the rings of threads 0, 1, 2 and so on, from which nothing was drained yet.
     pub fn new(alloc: Global, ends: Vec<DrainEnd>) -> Result<Collector, AllocError>
         requires order { AreInOrder ends.items }
         requires fresh { AreFresh ends.items }
@@ -73,10 +75,10 @@ impl Collector {
         })
     }
 
-    /// Drains at most `max` events from each ring, in order of thread, and returns how many.
+    /// Drains at most `max` events from each ring, in order of thread, and returns their number.
     ///
-    /// If memory for a ring's events is refused, the round ends there. What it drained before is kept, and that ring
-    /// and those after it are as they were: no event is lost. A later round may succeed.
+    /// If memory for a ring's events runs out, the round ends there. Events drained before are kept, and that ring
+    /// and those after it are unchanged: no event is lost. A later round may succeed.
     pub fn drain_round(&mut self, max: usize) -> Result<u64, AllocError>
         requires { max ≤ MAX_RING }
         ensures rings { rings_of self.new.rings ≡ rings_of self.old.rings }
@@ -91,16 +93,16 @@ impl Collector {
         drained
     }
 
-    /// Whether a round was refused its memory. No event was lost by it.
+    /// Returns whether a round ran out of memory. No event was lost by it.
     pub fn was_refused(&self) -> bool
         ensures { result ≡ self.now.refused }
     {
         self.refused
     }
 
-    /// Returns all that each thread pushed, certified by the close tokens of the rings in order of thread.
+    /// Returns all events that each thread pushed, certified by the close tokens of the rings in order of thread.
     ///
-    /// Each list is what was drained before, and then what was left in the ring.
+    /// Each list has the events drained before, and then those left in the ring.
     pub fn seal(self, tokens: Vec<CloseToken>) -> Result<Lists, CollectError>
         requires { AllZip Fits self.rings tokens.items }
         ensures sealed { IfOk result (λ lists. lists ≡ map (λ token. token.sent) tokens.items) }
@@ -142,14 +144,14 @@ fn drain_each(rings: &mut Vec<Drained>, max: usize) -> Result<u64, AllocError>
 {
     let mut total = 0;
     for place in 0..rings.len() {
-        // The place is its thread, and so below `MAX_THREADS`: the sum fits.
+        // Tells the proof that the place is that of a thread, below `MAX_THREADS`, so that the sum fits.
         let _thread = rings[place].thread();
         total += rings[place].drain(max)?;
     }
     Ok(total)
 }
 
-// Seals each ring with the token at its place, up to the first that refuses.
+// Seals each ring with the token at its place, up to the first that fails.
 fn seal_each(
     alloc: Global,
     rings: Vec<Drained>,
@@ -177,7 +179,7 @@ fn seal_each(
     Ok(lists)
 }
 
-// Returns all that the ring's thread pushed, certified by its close token.
+// Returns all events that the ring's thread pushed, certified by its close token.
 fn seal_one(ring: Drained, token: CloseToken) -> Result<Vec<Event>, CollectError>
     requires { Fits ring token }
     ensures sealed { IfOk result (λ events. events.items ≡ token.sent) }

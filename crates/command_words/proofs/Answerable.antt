@@ -1,4 +1,4 @@
--- Words without a fault name a subcommand of the program, whose options are there and in their ranges.
+-- Arguments without a fault name a subcommand of the program, whose options are given and in their ranges.
 use Rattle.std.proofs.Common.{◌≡◌, ◌∙◌, inl, inr, ◌||◌, ◌&&◌, ◌++◌, ℕ, Bool, true, false, not, List, [], ◌∷◌, Option, Some, None, is_some, length}
 use Rattle.std.proofs.Common.{map, option_map, codes, refl, sym, subst}
 use Rattle.std.specs.Prelude.{⊤, IfSome, IsSome, IsSomeAnd, find, if◌then◌else◌}
@@ -36,7 +36,7 @@ use Rattle.command_words.proofs.Walks.{AllUseWell, FindsWell, UsesWell, finds_we
 
 -- ---- options
 
--- the value passes the parser of the option of these with this id
+-- the value passes the parser of the option with this id
 abbrev test : List Rule → Text → Text → Bool
 test rules id v = option_map_or (λ a. accepts a.ignore_case (parser_of_value a.parser) v) (arg_by_id rules id) true
 
@@ -56,7 +56,7 @@ accepted ignore_case parser v e = go (accepts ignore_case parser v) e
     go false e = cc
 
 module _ (rules : List Rule) where
-  -- an option of one value passes its values on where they passed
+  -- an option with one value passes it on if it passed
   set_uses : (a : Rule) (how : Reading)
       → ((again : Bool) (values : List Text) (rows : List Row)
       → use_fault again a values rows ≡ or_else (range_kinds 1 1 (length values)) (set_fault again a (values_or_missing a values) rows))
@@ -85,12 +85,12 @@ module _ (rules : List Rule) where
   flag_uses name f again [] rows e p = set_passes (test rules) name (reading_by (filled (flag_rule name))) (codes "true" ∷ []) rows (f (codes "true")) p
   flag_uses name f again (v ∷ vs) rows e p = set_passes (test rules) name (reading_by (filled (flag_rule name))) (v ∷ vs) rows (f v) p
 
--- ---- those of `stress`
+-- ---- the options of `stress`
 
 queue_uses : UsesWell (test stress_rules) (filled queue_rule)
 queue_uses = set_uses stress_rules (filled queue_rule) AsWritten (λ again values rows. refl) (λ values rows. refl) (λ v e. refl)
 
--- so does that for a quiet answer
+-- the flag for a quiet answer is used well
 quiet_uses : UsesWell (test stress_rules) (filled quiet_rule)
 quiet_uses again [] rows e p = set_passes (test stress_rules) (codes "quiet") (reading_by (filled quiet_rule)) (codes "true" ∷ []) rows refl p
 quiet_uses again (v ∷ vs) rows e p = set_passes (test stress_rules) (codes "quiet") (reading_by (filled quiet_rule)) (v ∷ vs) rows refl p
@@ -137,7 +137,7 @@ left_true : (b : Bool) → (b || false) ≡ true → b ≡ true
 left_true true e = refl
 left_true false e = e
 
--- the last check of `stress`: what is required was given
+-- the last check of `stress`: the required options were given
 given_queue : (rows : List Row) → check_fault (built_with (codes "stress") stress_rules) rows false ≡ [] → is_given (codes "queue") rows ≡ true
 given_queue rows e = go (is_given (codes "queue") rows) e
   where
@@ -145,7 +145,7 @@ given_queue rows e = go (is_given (codes "queue") rows) e
     go true e = refl
     go false e = cc
 
--- a number of a subcommand that was met without a fault
+-- a number of a subcommand that is matched without a fault
 module _ (name : Text) (rules : List Rule) (uses : AllUseWell (test rules) (built_with name rules).rules)
     (defaults : DefaultsPass (test rules) (built_with name rules).rules) (rest : List Text)
     (none : level_fault (built_with name rules) [] nothing_held rest false [] ≡ []) where
@@ -181,7 +181,7 @@ module _ (rest : List Text) (none : level_fault (built_with (codes "stress") str
     initial = setting (codes "initial") 0 MAX_STRESS_INITIAL (λ v e. e) (inr (inr (inr (inr (inr (inr (inl (refl, tt))))))));
   }
 
--- ---- those of `draw`
+-- ---- the options of `draw`
 
 draw_uses_well : AllUseWell (test draw_rules) (built_with (codes "draw") draw_rules).rules
 draw_uses_well = (
@@ -208,7 +208,7 @@ has_distance rest none =
 
 -- ---- the program
 
--- a subcommand that is met without a fault and isn't `help` gives what can be answered
+-- a subcommand that is matched without a fault, and isn't `help`, can be answered
 abbrev AnswersWell : Shape → Type 0
 AnswersWell s = (name : Text) (rest : List Text) → answers_to name (label_of s) ≡ true → IsNotHelp name → level_fault s [] nothing_held rest false [] ≡ []
     → IsAnswerable (Some (rows_at s rest))
@@ -308,6 +308,6 @@ all_answer_well = (
   ),
 )
 
--- words in which nothing is wrong are a command
+-- arguments without a fault are a command
 pub answerable : (words : List Text) → fault_of the_program words ≡ [] → IsAnswerable (subcommand_of the_program words)
 answerable words none = answerable_app (built the_program) (argument_words the_program words) refl refl all_answer_well none

@@ -1,4 +1,4 @@
--- The rows at the end of a subcommand's words without a fault.
+-- The rows after a subcommand's arguments without a fault.
 use Rattle.std.proofs.Common.{◌≡◌, Bool, true, false, List, []}
 use Rattle.std.specs.Prelude.{IsSomeAnd}
 use Rattle.clap.specs.Faults.{check_fault, level_fault, settle_fault, walk_fault}
@@ -20,7 +20,7 @@ module _ (test : Text → Text → Bool) (s : Shape) (rest : List Text) (well : 
   settles : settle_fault s.rules s.args_override_self end.held ≡ []
   settles = first_none _ _ (then_none [] _ (then_none (walk_fault s [] (walk_from nothing_held) rest) _ none))
 
-  -- what the last checks of the level ask
+  -- the last checks of the level
   pub last_checks : check_fault s (rows_after s.rules [] rest) false ≡ []
   last_checks = then_none _ _ (then_none _ _ (then_none [] _ (then_none (walk_fault s [] (walk_from nothing_held) rest) _ none)))
 
@@ -31,6 +31,6 @@ module _ (test : Text → Text → Bool) (s : Shape) (rest : List Text) (well : 
   pub first_by_default : (id : Text) → HasDefault id s.rules → IsSomeAnd (first_of id (rows_after s.rules [] rest)) (λ v. test id v ≡ true)
   first_by_default id default = first_of_passes test id (rows_after s.rules [] rest) (has_default id s.rules (settled s.rules end.held).rows default) rows_pass
 
-  -- and so an option that was given
+  -- an option that was given has a first value, which passes
   pub first_given : (id : Text) → is_given id (rows_after s.rules [] rest) ≡ true → IsSomeAnd (first_of id (rows_after s.rules [] rest)) (λ v. test id v ≡ true)
   first_given id given = first_of_passes test id (rows_after s.rules [] rest) (given_has_row id (rows_after s.rules [] rest) given) rows_pass

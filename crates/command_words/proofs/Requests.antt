@@ -1,4 +1,4 @@
--- What can be answered is a request, with its numbers in their ranges.
+-- A subcommand that can be answered is a request, with its numbers in their ranges.
 use Rattle.std.proofs.Common.{◌≤◌, inl, inr, ℕ, List, Option, Some, None, codes, unwrap_or, []}
 use Rattle.std.specs.Prelude.{IfSome, IsSomeAnd, Bool, true, false, if◌then◌else◌}
 use Rattle.std.specs.Str.Parse.{digits_value, without_leading_plus}
@@ -45,7 +45,7 @@ named name rows (inr (inr (inr (inr (inr (inr (inl is))))))) = rw is tt
 named name rows (inr (inr (inr (inr (inr (inr (inr (inl is)))))))) = rw is tt
 named name rows (inr (inr (inr (inr (inr (inr (inr (inr stress)))))))) = rw stress.0 (within_ranges rows stress.1)
 
--- what can be answered is a request in its ranges
+-- a subcommand that can be answered is a request with its numbers in their ranges
 pub answerable_is_asked : (met : Option (Text × List Row)) → IsAnswerable met → IsSomeAnd (request_of_subcommand met) IsInRange
 answerable_is_asked None h = absurd h
 answerable_is_asked (Some (name, rows)) h = named name rows h

@@ -1,4 +1,4 @@
--- Rows of matches of which each has a first value that passed a test by the row's id.
+-- Rows of matches, each with a first value that passed a test by the row's id.
 use Rattle.std.proofs.Common.{◌≡◌, ◌⊎◌, inl, inr, ◌||◌, ◌++◌, Bool, true, false, List, [], ◌∷◌, Some, refl, subst}
 use Rattle.std.specs.Prelude.{⊤, IsSomeAnd, find, slice_get, if◌then◌else◌, option_and_then, fold}
 use Rattle.std.specs.Option.{option_map_or}
@@ -54,7 +54,7 @@ module _ (test : Text → Text → Bool) where
   without_passes : (name : Text) (rows : List Row) → RowsPass rows → RowsPass (without name rows)
   without_passes name rows p = at_row_passes name (λ _. []) [] rows (λ r q. tt) tt p
 
-  -- values whose first passes leave rows that pass
+  -- values whose first one passes leave rows that pass
   pub with_values_passes : (name : Text) (how : Reading) (s : ValueSource) (values : List Text) (rows : List Row) → FirstPasses name values → RowsPass rows
       → RowsPass (with_values name how s values rows)
   with_values_passes name how s values rows f p = at_row_passes name (more_values s values) _ rows (λ r q. (still_first r.id r.values values q, tt)) (f, tt) p
@@ -87,12 +87,12 @@ module _ (test : Text → Text → Bool) where
       go true = p
       go false = default_rows_pass a.id (reading_by a) a.defaults rows d p
 
-  -- rows that pass still do with the defaults of their rules
+  -- rows that pass still pass with the defaults of their rules
   pub defaults_pass : (rules : List Rule) (rows : List Row) → DefaultsPass rules → RowsPass rows → RowsPass (fold with_default rows rules)
   defaults_pass [] rows d p = p
   defaults_pass (a ∷ rules) rows d p = defaults_pass rules (with_default rows a) d.1 (with_default_passes rows a d.0 p)
 
-  -- ---- what is read
+  -- ---- reading rows
 
   first_value_passes : (id : Text) (values : List Text) → FirstPasses id values → IsSomeAnd (slice_get values 0) (λ v. test id v ≡ true)
   first_value_passes id [] p = absurd p
@@ -109,7 +109,7 @@ module _ (test : Text → Text → Bool) where
           (first_value_passes r.id r.values p.0)
       go false e h rest = rest h
 
--- ---- which ids have a row
+-- ---- ids that have a row
 
 has_own : (name : Text) (how : Reading) (s : ValueSource) (values : List Text) (rows : List Row) → has_row name (with_values name how s values rows) ≡ true
 has_own name how s values [] = rw (own_bytes name) refl
@@ -169,7 +169,7 @@ with_default_added rows a d = go (has_row a.id rows) refl
     go true e = e
     go false e = default_added a.id (reading_by a) a.defaults rows d
 
--- at the end a rule with a default has a row
+-- after all arguments a rule with a default has a row
 pub has_default : (id : Text) (rules : List Rule) (rows : List Row) → HasDefault id rules → has_row id (fold with_default rows rules) ≡ true
 has_default id [] rows d = absurd d
 has_default id (a ∷ rules) rows d = elim d [
@@ -178,7 +178,7 @@ has_default id (a ∷ rules) rows d = elim d [
   | inr there ↦ has_default id rules (with_default rows a) there
 ]
 
--- what was given has a row
+-- an option that was given has a row
 pub given_has_row : (id : Text) (rows : List Row) → is_given id rows ≡ true → has_row id rows ≡ true
 given_has_row id [] g = cc
 given_has_row id (r ∷ rs) g = go (bytes_eq r.id id) refl g (λ h. given_has_row id rs h)

@@ -12,7 +12,7 @@ use Rattle.clap.specs.Walk.{to_positional, trailing, value, waits, walked, walke
 use Rattle.clap.specs.declared.error.kind.ErrorKind.TheVariants as kind
 use Rattle.command_words.proofs.NoKinds.{first_none}
 
--- another word than `help`
+-- a word other than `help`
 abbrev pub IsNotHelp : Text → Type 0
 IsNotHelp name = bytes_eq name (codes "help") ≡ false
 

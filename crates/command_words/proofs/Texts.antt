@@ -1,4 +1,4 @@
--- What the getters of the matches give, by the rows.
+-- The getters of the matches, by the rows.
 use Rattle.std.proofs.Common.{◌≡◌, ◌∙◌, ap, sym, subst, ℕ, Option, Some, None, Result, Err, option_map, is_some, true, false}
 use Rattle.std.specs.Prelude.{IsSome, IsSomeAnd}
 use Rattle.std.specs.Borrow.{Bor}
@@ -10,7 +10,7 @@ use Rattle.clap.specs.declared.parser.matches.Found.{Found}
 use Rattle.clap.proofs.WalkLemmas.{first_value-rows}
 
 module _ (f : Found) (id : Text) (o : Option (Bor Text)) (got : option_map (λ s. s.now) o ≡ first_value f id) where
-  -- an option that wasn't got has no row
+  -- an option that wasn't found has no row
   pub absent : o ≡ None → None ≡ first_of id (rows_of f)
   absent none = ap (option_map (λ s. s.now)) (sym none) ∙ got ∙ first_value-rows f id
 
@@ -18,17 +18,17 @@ module _ (f : Found) (id : Text) (o : Option (Bor Text)) (got : option_map (λ s
   pub some_text : (P : Text → Type 0) → IsSomeAnd (first_of id (rows_of f)) P → o ≡ None → ⊥
   some_text P h none = subst (λ (x : Option Text). IsSomeAnd x P) (sym (absent none)) h
 
-  -- and so one that is there
+  -- an option with a text is found
   pub no_text : IsSome (first_of id (rows_of f)) → o ≡ None → ⊥
   no_text h none =
       let bad : false ≡ true = subst (λ (x : Option Text). is_some x ≡ true) (sym (absent none)) h in
       cc
 
-  -- the text that was got is the first of the rows
+  -- the text that was found is the first of the rows
   pub that_text : (t : Bor Text) → o ≡ Some t → first_of id (rows_of f) ≡ Some t.now
   that_text t some = sym (first_value-rows f id) ∙ sym got ∙ ap (option_map (λ s. s.now)) some
 
-  -- and where it is a number in a range, its parse doesn't fail
+  -- a text that is a number in a range is parsed without failing
   pub parses : {E : Type 0} (t : Bor Text) → o ≡ Some t → (low high : ℕ) → IsSomeAnd (first_of id (rows_of f)) (IsUnsignedIn low high) → (r : Result ℕ E)
       → ParsesUnsigned 64 10 t.now r → (e : E) → r ≡ Err e → ⊥
   parses t some low high h r p e is =

@@ -1,4 +1,4 @@
--- A walk over words without a fault keeps rows whose first values pass.
+-- A walk over arguments without a fault keeps rows whose first values pass.
 use Rattle.std.proofs.Common.{◌≡◌, ◌&&◌, ℕ, zero, suc, Bool, true, false, List, [], ◌∷◌, Option, Some, None, is_some, length, drop}
 use Rattle.std.specs.Prelude.{⊤, IfSome, find, fold, slice_get, encode_utf8, if◌then◌else◌}
 use Rattle.std.specs.Option.{option_map_or}
@@ -26,12 +26,12 @@ walk_keeps P s names f [] w e p = p
 walk_keeps P s names f (x ∷ xs) w e p = walk_keeps P s names f xs (walked s.rules names w x) (then_none _ _ e) (f w x (first_none _ _ e) p)
 
 module _ (test : Text → Text → Bool) where
-  -- a use of the rule without a fault keeps such rows
+  -- a use of the rule without a fault keeps rows that pass
   abbrev pub UsesWell : Rule → Type 0
   UsesWell a = (again : Bool) (values : List Text) (rows : List Row) → use_fault again a values rows ≡ [] → RowsPass test rows
       → RowsPass test (used a values rows)
 
-  -- each rule that a search of the list may find does so
+  -- each rule that a search of the list may find is used well
   abbrev pub FindsWell : List Rule → Type 0
   FindsWell c = (p : Rule → Bool) → IfSome (find p c) UsesWell
 
@@ -39,7 +39,7 @@ module _ (test : Text → Text → Bool) where
   AllUseWell [] = ⊤
   AllUseWell (a ∷ rules) = UsesWell a × AllUseWell rules
 
-  -- what is found in a list whose rules all read well reads well
+  -- if all rules of a list are used well, so is each that is found
   pub finds_well : (c : List Rule) → AllUseWell c → FindsWell c
   finds_well [] all p = tt
   finds_well (a ∷ rules) all p = go (p a) (finds_well rules all.1 p)
@@ -206,7 +206,7 @@ module _ (test : Text → Text → Bool) (s : Shape) (names : Names) (well : Fin
       go (Some q) e = p
       go None e = step_passes met.1 word w met.0 (then_none _ _ e) (word_passes w.is_trailing w.waiting w.position word w.held (first_none _ _ e) p)
 
-  -- the rows at the end of the words, once what was pending is used
+  -- the rows after all arguments, once the pending one is used
   pub walk_passes : (words : List Text) (w : Walk) → walk_fault s names w words ≡ [] → RowsPass test w.held.rows
       → settle_fault s.rules s.args_override_self (fold (walked s.rules names) w words).held ≡ []
       → RowsPass test (settled s.rules (fold (walked s.rules names) w words).held).rows

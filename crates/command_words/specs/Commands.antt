@@ -14,11 +14,11 @@ use Rattle.command_words.specs.declared.options.TheConstants.{MAX_AROUND}
 use Rattle.command_words.specs.declared.tasks.Task.{Task}
 use Rattle.command_words.specs.declared.tasks.Task.TheVariants as task
 
--- the program before its subcommands: it has a version, and wants a subcommand
+-- the program without its subcommands: it has a version, and requires a subcommand
 abbrev pub the_program_alone : App
 the_program_alone = record { top = record (new_shape (codes "fifobench")) { subcommand_required = true; has_version = true }; subs = [] }
 
--- the program: it has a version, and wants one of these subcommands
+-- the program: it has a version, and requires one of these subcommands
 abbrev pub the_program : App
 the_program = record {
   top = record the_program_alone.top { is_leaf = false };
@@ -26,20 +26,20 @@ the_program = record {
       ∷ the_draw ∷ new_shape (codes "convert") ∷ the_complete ∷ the_stats ∷ the_judging (codes "sim") ∷ the_stress ∷ [];
 }
 
--- what is wrong with the words, or which help they ask for: nothing where they are a command
+-- the usage error, or the help that was asked for; none for a valid command line
 abbrev pub faults_in : List Text → Kinds
 faults_in words = fault_of the_program words
 
--- what a command asks for, those that judge under a condition
+-- the request of a command; those that judge have a condition
 pub data Request : Type 0 where
   check : Condition → Request
   shrink : Condition → Request
   verify : Condition → Request
   draw : DrawOptions → Request
   convert : Request
-  -- whether a text that is cut off is taken too
+  -- whether a text that is cut off is accepted too
   complete : Bool → Request
-  -- whether the dequeues that overtook are listed in place of the numbers
+  -- whether the dequeues that overtook are listed instead of the numbers
   stats : Bool → Request
   sim : Request
   stress : Settings → Request
@@ -57,23 +57,23 @@ request_named name rows =
     else if bytes_eq name (codes "sim") then Some sim
     else if bytes_eq name (codes "stress") then Some (stress (settings_in rows)) else None
 
--- the request of the subcommand that was met, if one was
+-- the request of the matched subcommand, if there is one
 abbrev pub request_of_subcommand : Option (Text × List Row) → Option Request
 request_of_subcommand = option_and_then (λ p. request_named p.0 p.1)
 
--- the request of the words
+-- the request of the arguments
 abbrev pub request_in : List Text → Option Request
 request_in words = request_of_subcommand (subcommand_of the_program words)
 
--- the subcommand that was met has a flag for a quiet answer, which was given
+-- the matched subcommand has a flag for a quiet answer, which was given
 abbrev pub is_quiet_subcommand : Option (Text × List Row) → Bool
 is_quiet_subcommand = λ met. option_map_or (λ p. is_quiet p.1) met false
 
--- so of the subcommand of the words
+-- the subcommand of the arguments has a flag for a quiet answer, which was given
 abbrev pub is_quiet_in : List Text → Bool
 is_quiet_in words = is_quiet_subcommand (subcommand_of the_program words)
 
--- the request that a value of the program stands for
+-- the request of a value of the program
 abbrev pub request_of : Task → Request
 request_of (task.Check condition) = check condition
 request_of (task.Shrink condition) = shrink condition
@@ -85,7 +85,7 @@ request_of (task.Stats overtakes) = stats overtakes
 request_of task.Sim = sim
 request_of (task.Stress options) = stress (settings_of options)
 
--- each number of the request lies in the range of its option
+-- each number of the request is in the range of its option
 abbrev pub IsInRange : Request → Type 0
 IsInRange (draw options) = IfSome options.around (λ n. n ≤ MAX_AROUND)
 IsInRange (stress settings) = IsWithinRanges settings

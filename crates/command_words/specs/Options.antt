@@ -14,7 +14,7 @@ use Rattle.command_words.specs.declared.options.Condition.{Condition}
 use Rattle.command_words.specs.declared.options.DrawOptions.{DrawOptions}
 use Rattle.command_words.specs.declared.options.StressOptions.{StressOptions}
 
--- ---- what may be written
+-- ---- options as they may be given
 
 -- an option that takes one number from low to high, and has a default
 abbrev pub number_rule : Text → ℕ → ℕ → Text → Rule
@@ -25,7 +25,7 @@ number_rule name low high default = record (new_rule name) {
   defaults = default ∷ [];
 }
 
--- the queue's name, any text, which has to be given
+-- the name of the queue: any text, which is required
 abbrev pub queue_rule : Rule
 queue_rule = record (new_rule (codes "queue")) {
   long = Some (codes "queue");
@@ -40,7 +40,7 @@ flag_rule name = record (new_rule name) {
   action = Some SetTrue;
 }
 
--- the flag that asks for the first line of a verdict alone
+-- the flag for only the first line of a verdict
 abbrev pub quiet_rule : Rule
 quiet_rule = record (new_rule (codes "quiet")) {
   long = Some (codes "quiet");
@@ -64,7 +64,7 @@ the_deciding name = record (new_shape name) { rules = quiet_rule ∷ condition_r
 abbrev pub the_verify : Shape
 the_verify = record (new_shape (codes "verify")) { rules = condition_rules }
 
--- the flags of `draw`, and how many events around a violation it draws
+-- the flags of `draw`, and the number of events drawn around a violation
 abbrev pub draw_rules : List Rule
 draw_rules =
     flag_rule (codes "text") ∷ flag_rule (codes "html") ∷ number_rule (codes "around") 0 MAX_AROUND (codes "0") ∷ flag_rule (codes "all")
@@ -95,9 +95,9 @@ stress_rules = queue_rule ∷ number_rule (codes "threads") 1 MAX_WORKERS (codes
 abbrev pub the_stress : Shape
 the_stress = record (new_shape (codes "stress")) { rules = stress_rules }
 
--- ---- what is read
+-- ---- options as they are read
 
--- what the options ask for, the queue by the text of its name
+-- the values of the options, with the queue by the text of its name
 pub record Settings : Type 0 where
   pub queue : Text
   pub threads : ℕ
@@ -108,7 +108,7 @@ pub record Settings : Type 0 where
   pub initial : ℕ
   pub condition : Condition
 
--- the settings that a value of the program stands for
+-- the settings of a value of the program
 abbrev pub settings_of : StressOptions → Settings
 settings_of o = record {
   queue = o.queue.now;
@@ -121,20 +121,20 @@ settings_of o = record {
   condition = o.condition;
 }
 
--- the text of an option; there is one in all words that are a command
+-- the text of an option; each valid command line has one
 abbrev pub text_in : Text → List Row → Text
 text_in id rows = unwrap_or (first_of id rows) []
 
--- the decimal value of an option's text, before which a `+` may stand
+-- the decimal value of an option's text, which may begin with `+`
 abbrev pub number_in : Text → List Row → ℕ
 number_in id rows = digits_value 10 (without_leading_plus (text_in id rows))
 
--- the text of a flag says that it was given
+-- the text of a flag that was given
 abbrev pub is_given : Option Text → Bool
 is_given None = false
 is_given (Some text) = bytes_eq text (codes "true")
 
--- clap's matches of a command say that this flag was given
+-- this flag is among clap's matches of a command
 abbrev pub has_flag : Text → List Row → Bool
 has_flag name rows = is_given (first_of name rows)
 
@@ -154,27 +154,28 @@ lists_overtakings rows = has_flag (codes "overtakes") rows
 abbrev pub linearizability : Condition
 linearizability = record { is_local = false; is_weakly_empty = false }
 
--- the condition that clap's matches of a command ask for
+-- the condition in clap's matches of a command
 abbrev pub condition_in : List Row → Condition
 condition_in rows = record { is_local = has_flag (codes "local") rows; is_weakly_empty = has_flag (codes "weak-empty") rows }
 
--- the form of a picture that clap's matches of `draw` ask for: characters if that flag was given, else a page, else SVG
+-- the form of the picture in clap's matches of `draw`: characters if that flag was given, else a page if that was,
+-- else SVG
 abbrev pub form_in : List Row → PictureForm
 form_in rows = if has_flag (codes "text") rows then Terminal else (if has_flag (codes "html") rows then Html else Svg)
 
--- how many events around a violation are drawn: all that there are, if that flag was given
+-- the number of events drawn around a violation; all of them if that flag was given
 abbrev pub around_in : List Row → Option ℕ
 around_in rows = if has_flag (codes "all") rows then None else Some (number_in (codes "around") rows)
 
--- a picture in this form, with no events around a violation, of linearizability
+-- a picture in this form, without events around a violation, of linearizability
 abbrev pub drawing_as : PictureForm → DrawOptions
 drawing_as form = record { form = form; around = Some 0; condition = linearizability }
 
--- how clap's matches of `draw` ask for a picture
+-- the options in clap's matches of `draw`
 abbrev pub drawing_in : List Row → DrawOptions
 drawing_in rows = record { form = form_in rows; around = around_in rows; condition = condition_in rows }
 
--- the settings that clap's matches of `stress` give, in which an option that isn't given has its default
+-- the settings in clap's matches of `stress`; an option that isn't given has its default
 abbrev pub settings_in : List Row → Settings
 settings_in rows = record {
   queue = text_in (codes "queue") rows;
@@ -187,7 +188,7 @@ settings_in rows = record {
   condition = condition_in rows;
 }
 
--- each number lies in the range of its option
+-- each number is in the range of its option
 pub record IsWithinRanges (s : Settings) : Type 0 where
   pub threads : (1 ≤ s.threads) × (s.threads ≤ MAX_WORKERS)
   pub operations : s.operations ≤ MAX_THREAD_OPERATIONS

@@ -1,4 +1,4 @@
-//! The commands, as clap takes them.
+//! The commands, as clap accepts them.
 ghost use Rattle.std.specs.Prelude.{◌≡◌, IfOk, false};
 ghost use Rattle.clap.specs.Simple.{Shape, app_of, new_app, shape_of, with_subcommand};
 ghost use Rattle.clap.specs.Walk.{rule_of};
@@ -16,7 +16,7 @@ use event_records::{
 };
 use std::alloc::{AllocError, Global};
 
-/// The program with its subcommands.
+/// Returns the program with its subcommands.
 pub(crate) fn the_command<'a>(alloc: Global) -> Result<Command<'a>, AllocError>
     ensures { IfOk result (λ c. app_of c ≡ the_program) }
 {
@@ -24,7 +24,7 @@ pub(crate) fn the_command<'a>(alloc: Global) -> Result<Command<'a>, AllocError>
     with_last_five(alloc, half)
 }
 
-// The program with the first four of its subcommands.
+// Adds the first four subcommands to the program.
 fn with_first_four<'a>(alloc: Global, app: Command<'a>) -> Result<Command<'a>, AllocError>
     ensures { IfOk result (λ c. app_of c ≡ with_first_four (app_of app.entry)) }
 {
@@ -36,7 +36,7 @@ fn with_first_four<'a>(alloc: Global, app: Command<'a>) -> Result<Command<'a>, A
     with(with_verify, draw_command(alloc))
 }
 
-// The program with the last five too.
+// Adds the last five subcommands to the program.
 fn with_last_five<'a>(alloc: Global, app: Command<'a>) -> Result<Command<'a>, AllocError>
     ensures { IfOk result (λ c. app_of c ≡ with_last_five (app_of app.entry)) }
 {
@@ -49,7 +49,7 @@ fn with_last_five<'a>(alloc: Global, app: Command<'a>) -> Result<Command<'a>, Al
     with(with_sim, stress_command(alloc))
 }
 
-// The program before its subcommands.
+// Returns the program without its subcommands.
 fn program_alone<'a>(alloc: Global) -> Command<'a>
     ensures { app_of result ≡ the_program_alone }
 {
@@ -61,7 +61,7 @@ fn program_alone<'a>(alloc: Global) -> Command<'a>
         .subcommand_required(true)
 }
 
-// The program with one more subcommand, if there was memory for that.
+// Adds a subcommand to the program, or passes on that memory ran out.
 fn with<'a>(
     app: Command<'a>,
     added: Result<Command<'a>, AllocError>,
@@ -73,7 +73,7 @@ fn with<'a>(
     app.subcommand(added?)
 }
 
-// A subcommand without options.
+// Returns a subcommand without options.
 fn plain_command<'a>(alloc: Global, name: &'a str, about: &'a str, long: &'a str) -> Command<'a>
     ensures app { app_of result ≡ new_app name.entry.now }
     ensures local { (out-Command result).has_globals ≡ false }
@@ -84,7 +84,7 @@ fn plain_command<'a>(alloc: Global, name: &'a str, about: &'a str, long: &'a str
         .after_long_help(long)
 }
 
-// A subcommand that judges, and may be asked to say no more than that.
+// Returns a subcommand that judges, with the flag for a quiet answer.
 fn judging_command<'a>(
     alloc: Global,
     name: &'a str,
@@ -97,7 +97,7 @@ fn judging_command<'a>(
     plain_command(alloc, name, about, long).arg(quiet_option(alloc))
 }
 
-// A subcommand that judges under a condition.
+// Returns a subcommand that judges under a condition.
 fn deciding_command<'a>(
     alloc: Global,
     name: &'a str,
@@ -119,7 +119,7 @@ fn verify_command<'a>(alloc: Global) -> Result<Command<'a>, AllocError>
     with_condition(alloc, command)
 }
 
-// The subcommand with the flags for a weaker condition.
+// Adds the flags for a weaker condition.
 fn with_condition<'a>(alloc: Global, command: Command<'a>) -> Result<Command<'a>, AllocError>
     requires { (out-Command command).has_globals ≡ false }
     ensures app { IfOk result (λ c. app_of c ≡ with_condition (app_of command.entry)) }
@@ -195,7 +195,7 @@ fn stress_command<'a>(alloc: Global) -> Result<Command<'a>, AllocError>
     with_condition(alloc, strict)
 }
 
-// The subcommand with the queue, the workers, how many operations each makes, and the seed.
+// Adds the options for the queue, the workers, the operations of each, and the seed.
 fn with_plan<'a>(alloc: Global, command: Command<'a>) -> Result<Command<'a>, AllocError>
     requires { (out-Command command).has_globals ≡ false }
     ensures app { IfOk result (λ c. app_of c ≡ with_plan (app_of command.entry)) }
@@ -220,7 +220,7 @@ fn with_plan<'a>(alloc: Global, command: Command<'a>) -> Result<Command<'a>, All
         .arg(number_option(alloc, "seed", (0, MAX_SEED), "1", help::SEED_HELP))
 }
 
-// The subcommand with how many of a hundred operations enqueue, two sizes, and the flag for a quiet answer.
+// Adds the options for the percentage of enqueues and for two sizes, and the flag for a quiet answer.
 fn with_sizes<'a>(alloc: Global, command: Command<'a>) -> Result<Command<'a>, AllocError>
     requires { (out-Command command).has_globals ≡ false }
     ensures app { IfOk result (λ c. app_of c ≡ with_sizes (app_of command.entry)) }
@@ -256,7 +256,7 @@ fn queue_option<'a>(alloc: Global) -> Arg<'a>
         .help(help::QUEUE_HELP)
 }
 
-// An option of a number from the first to the second of `range`.
+// Returns an option whose value is a number in `range`, both ends included.
 fn number_option<'a>(
     alloc: Global,
     name: &'a str,

@@ -1,8 +1,8 @@
-//! The texts of the help. No line is longer than 80 characters. Of each command a short text is printed for `-h`, and a long one
-//! for `--help`.
+//! The texts of the help. No line is longer than 80 characters. A command has a short text, printed for `-h`, and a
+//! long one for `--help`.
 
-/// The version of the program, as CHANGELOG.md has it, and in a second line the logic that its proofs are checked in: that of the
-/// kit, whose name says nothing of it.
+/// The version of the program, as in CHANGELOG.md. The second line names the logic in which its proofs are checked,
+/// which the kit's own name doesn't show.
 pub(crate) const VERSION: &str = "0.2.0\nproved in the Rattle logic dac8208d650f15bf";
 
 pub(crate) const ABOUT: &str = "Records and judges histories of a concurrent FIFO queue";

@@ -1,4 +1,4 @@
-//! The command line of `fifobench`: its subcommands, their options, and what the words ask for.
+//! The command line of `fifobench`: its subcommands, their options, and the request of its arguments.
 #![tactic(auto)]
 
 mod commands;

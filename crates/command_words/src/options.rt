@@ -11,14 +11,14 @@ use clap::ArgMatches;
 /// The condition that is judged: linearizability, or a weaker one.
 #[derive(Clone, Copy, PartialEq, Eq)]
 pub struct Condition {
-    /// Whether the values of each producer are judged alone.
+    /// Whether the values of each producer are judged on their own.
     pub is_local: bool,
     /// Whether an empty dequeue promises nothing.
     pub is_weakly_empty: bool,
 }
 
 impl Condition {
-    /// Linearizability.
+    /// Returns the condition of linearizability.
     pub fn linearizable() -> Condition
         ensures { result ≡ linearizability }
     {
@@ -39,7 +39,7 @@ pub(crate) fn judged_condition(matches: &ArgMatches<'_>) -> Condition
     }
 }
 
-/// How a picture is drawn.
+/// The form of a picture.
 #[derive(Clone, Copy, PartialEq, Eq)]
 pub enum PictureForm {
     /// An SVG document.
@@ -50,21 +50,22 @@ pub enum PictureForm {
     Terminal,
 }
 
-/// The greatest distance that `draw` takes, in events.
+/// The greatest distance that `draw` accepts, in events.
 pub const MAX_AROUND: u64 = 1000;
 
-/// How `draw` draws.
+/// The options of `draw`.
 #[derive(Clone, Copy, PartialEq, Eq)]
 pub struct DrawOptions {
     pub form: PictureForm,
-    /// Of a `NO`, how many events before and after the operations that show it are drawn; all of the history, if `None`.
+    /// For a `NO`, the number of events drawn before and after the operations that show it; the whole history if
+    /// `None`.
     pub around: Option<usize>,
     /// The condition under which the history is decided, or the claim is evidence.
     pub condition: Condition,
 }
 
 impl DrawOptions {
-    /// What `draw` takes if it is asked for no more than a form.
+    /// Returns the options of `draw` with the defaults for all but the form.
     pub fn new(form: PictureForm) -> DrawOptions
         ensures { result ≡ drawing_as form }
     {
@@ -76,7 +77,7 @@ impl DrawOptions {
     }
 }
 
-/// The options in the matches of `draw`.
+/// Returns the options in the matches of `draw`.
 pub(crate) fn draw_options(matches: &ArgMatches<'_>) -> DrawOptions
     requires { HasDistance (rows_of (found_of matches.now)) }
     ensures drawing { result ≡ drawing_in (rows_of (found_of matches.now)) }
@@ -101,7 +102,7 @@ fn distance(matches: &ArgMatches<'_>) -> Option<usize>
     }
 }
 
-/// The form of a picture in the matches of `draw`.
+/// Returns the form of the picture in the matches of `draw`.
 fn picture_form(matches: &ArgMatches<'_>) -> PictureForm
     ensures { result ≡ form_in (rows_of (found_of matches.now)) }
 {
@@ -114,21 +115,21 @@ fn picture_form(matches: &ArgMatches<'_>) -> PictureForm
     }
 }
 
-/// Whether the flag for a quiet answer is among the matches of a command.
+/// Returns whether the flag for a quiet answer is among the matches of a command.
 pub(crate) fn is_quiet(matches: &ArgMatches<'_>) -> bool
     ensures { result ≡ is_quiet (rows_of (found_of matches.now)) }
 {
     has_flag(matches, "quiet")
 }
 
-/// Whether the flag for texts that are cut off is among the matches of `complete`.
+/// Returns whether the flag for texts that are cut off is among the matches of `complete`.
 pub(crate) fn takes_cut(matches: &ArgMatches<'_>) -> bool
     ensures { result ≡ takes_cut (rows_of (found_of matches.now)) }
 {
     has_flag(matches, "cut")
 }
 
-/// Whether the flag for dequeues that overtook is among the matches of `stats`.
+/// Returns whether the flag for dequeues that overtook is among the matches of `stats`.
 pub(crate) fn lists_overtakings(matches: &ArgMatches<'_>) -> bool
     ensures { result ≡ lists_overtakings (rows_of (found_of matches.now)) }
 {
@@ -150,28 +151,28 @@ fn is_given(text: &str) -> bool
     text == "true"
 }
 
-/// What `stress` runs.
+/// The options of `stress`.
 #[derive(Clone, Copy, PartialEq, Eq)]
 pub struct StressOptions<'a> {
-    /// The queue's name as it was written, which may be no queue's.
+    /// The name of the queue as it was given; there may be no such queue.
     pub queue: &'a str,
-    /// Workers, 1 to 32.
+    /// The number of workers, 1 to 32.
     pub threads: usize,
-    /// Operations of each worker, 0 to 100,000.
+    /// The number of operations of each worker, 0 to 100,000.
     pub operations: usize,
     /// The seed of the workers' plan, below 2^32.
     pub seed: u64,
-    /// About how many of a hundred operations are enqueues, 0 to 100.
+    /// The approximate percentage of enqueues, 0 to 100.
     pub percent: u8,
-    /// Events that the ring of each worker holds, 2 to 65,536.
+    /// The capacity of each worker's ring, 2 to 65,536 events.
     pub ring: usize,
-    /// Values that the queue holds before the run, 0 to 1,000.
+    /// The number of values that the queue holds before the run, 0 to 1,000.
     pub initial: usize,
     /// The condition under which the run is decided.
     pub condition: Condition,
 }
 
-/// The options in the matches of `stress`.
+/// Returns the options in the matches of `stress`.
 pub(crate) fn stress_options<'a>(matches: &ArgMatches<'a>) -> StressOptions<'a>
     requires { HasSettings (rows_of (found_of matches.now)) }
     ensures settings { settings_of result ≡ settings_in (rows_of (found_of matches.now)) }
@@ -192,7 +193,7 @@ pub(crate) fn stress_options<'a>(matches: &ArgMatches<'a>) -> StressOptions<'a>
     }
 }
 
-// The number of an option that the parse has checked.
+// Returns the number of an option that the parser has checked.
 fn number(matches: &ArgMatches<'_>, id: &str) -> u64
     requires { (low : ℕ) × (high : ℕ) × HasNumber id.now low high (rows_of (found_of matches.now)) }
     ensures { result ≡ number_in id.now (rows_of (found_of matches.now)) }

@@ -1,4 +1,4 @@
-//! What the words ask for.
+//! The requests of arguments.
 ghost use Rattle.std.specs.Prelude.{◌≡◌, IfOk, IfErr, OnOk, Some, map, []};
 ghost use Rattle.clap.specs.Kinds.{HasKind};
 ghost use Rattle.clap.specs.Simple.{subcommand_rows_of};
@@ -14,49 +14,49 @@ use clap::{ArgMatches, Error};
 use std::alloc::Global;
 use std::convert::AsStr;
 
-/// What the words ask for.
+/// The request of a command.
 #[derive(Clone, Copy, PartialEq, Eq)]
 pub enum Task<'a> {
     /// Read a history and print its verdict.
     Check(Condition),
-    /// Read a history and print a smaller one that shows the same kind of violation, and its verdict.
+    /// Read a history, and print a smaller one that shows the same kind of violation, with its verdict.
     Shrink(Condition),
-    /// Read a history and a claimed verdict, and print whether the verdict holds.
+    /// Read a history and a claimed verdict, and print whether the claim is true.
     Verify(Condition),
     /// Read a history and a claimed verdict, and print a picture of both.
     Draw(DrawOptions),
     /// Read a history of either version of the text, and write it in version 2.
     Convert,
-    /// Read a history whose calls may be pending, and write its completion.
+    /// Read a history in which calls may be pending, and write its completion.
     Complete {
         /// Whether a text that is cut off is read as far as it goes.
         takes_cut: bool,
     },
-    /// Read a history and print its statistics.
+    /// Read a history, and print its statistics.
     Stats {
-        /// Whether the dequeues that overtook values are printed in their place.
+        /// Whether the dequeues that overtook values are printed instead.
         overtakes: bool,
     },
-    /// Read a schedule, run it on the recorder's machine, and print what it recorded and the verdict.
+    /// Read a schedule, run it on the recorder's machine, and print the recorded history and its verdict.
     Sim,
-    /// Run workers on a queue, and print what was recorded and the verdict.
+    /// Run workers on a queue, and print the recorded history and its verdict.
     Stress(StressOptions<'a>),
 }
 
-/// What the words ask for, and how it is to be answered.
+/// A request, and the form of the answer.
 #[derive(Clone, Copy, PartialEq, Eq)]
 pub struct Order<'a> {
-    /// What is to be done.
+    /// The request.
     pub task: Task<'a>,
-    /// Whether the first line of the verdict is wanted alone.
+    /// Whether only the first line of the verdict is wanted.
     pub is_quiet: bool,
 }
 
-/// The order that the words give, or clap's error about them.
+/// Parses the arguments, the first of which is the program's own name, or returns clap's error.
 ///
-/// The first word is the program's own name. A mistake in the words is an error of status 2 by clap's `exit_code`, and words
-/// that ask for a help one of status 0, whose text is the help; only out of memory has the kind `OutOfMemory`. A number
-/// out of the range of its option is a mistake of kind `ValueValidation`.
+/// A mistake in the arguments is an error of status 2 by clap's `exit_code`. Arguments that ask for a help are one of
+/// status 0, whose text is the help. The kind `OutOfMemory` comes only if memory ran out. A number out of the range
+/// of its option is a mistake of kind `ValueValidation`.
 pub fn order_in<'a, T: AsStr>(alloc: Global, words: &'a [T]) -> Result<Order<'a>, Error>
     ensures ok { OnOk result (faults_in (map T.text words.entry.now) ≡ []) }
     ensures task { IfOk result (λ order. request_in (map T.text words.entry.now) ≡ Some (request_of order.task)) }
@@ -75,7 +75,7 @@ pub fn order_in<'a, T: AsStr>(alloc: Global, words: &'a [T]) -> Result<Order<'a>
     }
 }
 
-// Whether the subcommand that was met has its flag for a quiet answer.
+// Returns whether the matched subcommand has its flag for a quiet answer.
 fn is_quiet_of(matches: &ArgMatches<'_>) -> bool
     ensures { result ≡ is_quiet_subcommand (subcommand_rows_of matches.now) }
 {
@@ -85,7 +85,7 @@ fn is_quiet_of(matches: &ArgMatches<'_>) -> bool
     }
 }
 
-// The task of matches that a parse without a fault gave.
+// Returns the request in the matches of arguments without a fault.
 fn task_of<'a>(matches: &ArgMatches<'a>) -> Task<'a>
     requires { IsAnswerable (subcommand_rows_of matches.now) }
     ensures task { request_of_subcommand (subcommand_rows_of matches.now) ≡ Some (request_of result) }

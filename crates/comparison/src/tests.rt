@@ -21,16 +21,16 @@ use std::test::Fail;
 use value_match::{Matched, Matching, match_values};
 use verdicts::{ViolationKind, claim, decide, verify};
 
-/// The histories of each sort.
+/// The number of histories of each sort.
 const HISTORIES: u32 = 100;
 
-/// The most seeds for these: some of them give an operation no answer.
+/// The maximum number of seeds for these histories. Some seeds give no operation an answer of their own.
 const SEEDS: u64 = 300;
 
-/// The least number of histories of each kind.
+/// The minimum number of histories of each kind.
 const ENOUGH: u32 = 15;
 
-/// How many histories had which answer.
+/// The number of histories with each answer.
 #[derive(Clone, Copy, Debug, Default)]
 struct Met {
     legal: u32,
@@ -52,7 +52,7 @@ impl Met {
     }
 }
 
-/// What is compared about the history of this seed, if some answer was told in it.
+/// Compares the answers about the history of this seed, if an answer that the queue didn't give occurs in it.
 fn compare_seed(rt: &impl AllocGlobal, seed: u64, sort: Sort) -> Result<Option<Compared>, Fail> {
     let Some(history) = seeded_history(rt.alloc(), seed, sort)? else {
         return Ok(None);
@@ -63,7 +63,7 @@ fn compare_seed(rt: &impl AllocGlobal, seed: u64, sort: Sort) -> Result<Option<C
     Ok(Some(compare(rt, &history)?))
 }
 
-/// Compares the answers about histories of this sort in each of which some answer was told, and counts them.
+/// Compares the answers about `HISTORIES` histories of this sort, and counts them by kind.
 fn compare_all(rt: &(impl Abort + AllocGlobal), sort: Sort, met: &mut Met) -> Result<(), Fail> {
     let mut compared = 0u32;
     for seed in 0..SEEDS {
@@ -80,7 +80,8 @@ fn compare_all(rt: &(impl Abort + AllocGlobal), sort: Sort, met: &mut Met) -> Re
     Ok(())
 }
 
-/// Compares histories with these parts of told answers, of a queue that holds this many values first, and counts them.
+/// Compares histories with these shares of answers that the queue didn't give, of a queue with `first` initial
+/// values, and counts them.
 fn met_in(rt: &(impl Abort + AllocGlobal), lies: &[u64], first: u8) -> Result<Met, Fail> {
     let mut met = Met::default();
     for lies in lies {
@@ -89,7 +90,7 @@ fn met_in(rt: &(impl Abort + AllocGlobal), lies: &[u64], first: u8) -> Result<Me
     Ok(met)
 }
 
-/// Whether enough histories of each kind were met.
+/// Returns whether there were enough histories of each kind.
 fn are_enough(met: Met) -> bool {
     [met.legal, met.fresh, met.repeat, met.order, met.witness]
         .iter()
@@ -110,7 +111,7 @@ fn sweeps_answer_as_plain_scans_behind_initial_values(rt: HostRuntime) -> Result
     Ok(())
 }
 
-/// How many operations a history has, the kind of its violation if it has one, and whether the claim is true.
+/// The number of operations of a history, the kind of its violation if it has one, and whether the claim is true.
 type Judged = (usize, Option<ViolationKind>, bool);
 
 fn judged(alloc: Global, history: &History) -> Result<Judged, AllocError> {
@@ -124,7 +125,7 @@ fn judged(alloc: Global, history: &History) -> Result<Judged, AllocError> {
     ))
 }
 
-/// What is found of the window of the first empty answer of a matching.
+/// Returns the result for the window of the first empty dequeue of a matching.
 fn first_gap_in(alloc: Global, matching: &Matching) -> Result<GapAnswer, Fail> {
     let empties = matching.empties();
     if empties.len() == 0 {
@@ -133,7 +134,7 @@ fn first_gap_in(alloc: Global, matching: &Matching) -> Result<GapAnswer, Fail> {
     Ok(gap_for(alloc, matching, empties.get(0))?)
 }
 
-/// Whether there is a gap for a history's first empty dequeue.
+/// Returns whether there is a gap for a history's first empty dequeue.
 fn has_gap(alloc: Global, history: &History) -> Result<bool, Fail> {
     match match_values(alloc, history)? {
         Matched::Clear(matching) => match first_gap_in(alloc, &matching)? {

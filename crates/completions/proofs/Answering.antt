@@ -1,4 +1,4 @@
--- The answers to pending calls, the values that they give, and the operations that come of them.
+-- The answers to pending calls, the values that they give, and the operations that they complete.
 use Rattle.std.proofs.Common.{◌≡◌, ◌≢◌, ℕ, zero, suc, ◌+◌, ◌-◌, ◌<◌, ◌⊎◌, ◌++◌, inl, inr, Bool, true, false, not, List, [], ◌∷◌, length, map, Option}
 use Rattle.std.proofs.Common.{Some, None, refl, ap, sym, subst, ◌∙◌, arith}
 use Rattle.std.proofs.Common.{get_or, take, drop}
@@ -119,7 +119,7 @@ module _ (initial : List ℕ) (events : List Event) (history : IsHistoryFrom ini
           let whole : events ≡ (before ++ r ∷ []) ++ later = is ∙ sym (append_assoc before (r ∷ []) later) in
           (found.0, o, made, subst (λ (es : List Event). Contains (operations_of es) o) (sym whole) (operations_keep (before ++ r ∷ []) later o there))
 
-  -- the values that are given are those that operations dequeued
+  -- the given values are those that operations dequeued
   pub given_by : (v : ℕ) → is_given events v ≡ true → (o : Operation) × Contains (operations_of events) o × (o.kind ≡ Deq v)
   given_by v is =
       let any = Any-from_list_any (λ w. nat_eq w v) (given_values events) is in
@@ -150,7 +150,7 @@ module _ (initial : List ℕ) (events : List Event) (history : IsHistoryFrom ini
 
 -- ---- enqueues by their returns
 
--- the operation of a successful enqueue that a return ends
+-- the operation of a successful enqueue, at its return
 abbrev pub taken_operation : List Event → Event → Option Operation
 taken_operation before e = elim e.what [
   | RetEnq ↦ option_and_then (λ call. operation_of call (Some e)) (pending_call e.thread before)
@@ -179,7 +179,7 @@ taken_made before e o is = by_what e.what refl is
     by_what (RetDeq v) what made = cc
     by_what RetEmpty what made = cc
 
--- they are operations
+-- these are operations of the history
 pub taken_in : (before later : List Event) (o : Operation) → Contains (taken_from before later) o
     → Contains (operations_of (before ++ later)) o × ((v : ℕ) × (o.kind ≡ Enq v)) × ((e : Event) × Contains later e × (o.ret ≡ e.ticket))
 taken_in before [] o among = absurd (not_in_none o among)
@@ -209,7 +209,7 @@ taken_in before (e ∷ later) o among =
     enqueued (RetDeq v) answer k is made = cc
     enqueued RetEmpty answer k is made = cc
 
--- and each successful enqueue is among them
+-- each successful enqueue is one of these
 pub taken_all : (before later : List Event) (o : Operation) (v : ℕ) → Contains (operations_of (before ++ later)) o → o.kind ≡ Enq v
     → Contains (operations_of before) o ⊎ Contains (taken_from before later) o
 taken_all before [] o v among is = inl (subst (λ (es : List Event). Contains (operations_of es) o) (append-nil before) among)
@@ -233,7 +233,7 @@ taken_all before (e ∷ later) o v among is =
       ]
     ]
 
--- ---- their values
+-- ---- values of enqueues
 
 -- the value that an operation enqueued
 abbrev pub value_in : OpKind → ℕ

@@ -1,4 +1,4 @@
--- Completions, event by event: which operations a completion has, and that the chosen one is complete.
+-- Completions, event by event: the operations of a completion, and that the chosen one is complete.
 use Rattle.std.proofs.Common.{◌≡◌, ℕ, zero, suc, ◌<◌, ◌⊎◌, ◌++◌, inl, inr, Bool, true, false}
 use Rattle.std.proofs.Common.{not, List, [], ◌∷◌, Some, None, refl, ap, sym, subst, ◌∙◌, arith}
 use Rattle.std.specs.Prelude.{All, Contains, nat_eq}
@@ -43,7 +43,7 @@ call_or_answered (x ∷ answer ∷ rest) c turns rise among call =
 
 module _ (initial : List ℕ) (events : List Event) (history : IsHistoryFrom initial events) (out : Event → Bool)
     (only : (e : Event) → Contains events e → out e ≡ true → IsPendingCall events e) where
-  -- what stays is one of the events
+  -- each event that stays is one of the events
   stays : (e : Event) → Contains (keeping out events) e → Contains events e
   stays e among = (passed_filter (λ e. not (out e)) events e among).0
 
@@ -57,7 +57,7 @@ module _ (initial : List ℕ) (events : List Event) (history : IsHistoryFrom ini
   pub same_operations : operations_of (keeping out events) ≡ operations_of events
   same_operations = operations_kept out events (only_last out events history.tickets_rise only)
 
-  -- what is pending among those that stay, and returns after them, was pending before
+  -- a call that is pending among those that stay, and returns after them, was pending before
   pub was_pending : (returns : List Event) (thread : ℕ) (call : Event) → TicketsRise (keeping out events ++ returns)
       → All (λ r. is_call r.what ≡ false) returns → last_of thread (keeping out events ++ returns) ≡ Some call → is_call call.what ≡ true
       → Contains events call × IsPendingCall events call
@@ -84,7 +84,7 @@ module _ (initial : List ℕ) (events : List Event) (history : IsHistoryFrom ini
             ]
       ]
 
-  -- an operation of a completion is one of the history, or a pending call with one of the returns
+  -- an operation of a completion is one of the history, or a pending call with one of the added returns
   pub completed_or_ended : (returns : List Event) (o : Operation) → TicketsRise (keeping out events ++ returns)
       → All (λ r. is_call r.what ≡ false) returns → Contains (operations_of (keeping out events ++ returns)) o
       → Contains (operations_of events) o ⊎ ((call r : Event) × Contains events call × IsPendingCall events call × Contains returns r

@@ -1,4 +1,4 @@
--- Places that differ and lie below a bound are no more than that bound.
+-- Different places below a bound are no more than the bound.
 use Rattle.std.proofs.Common.{◌≡◌, ℕ, zero, suc, ◌<◌, ◌≤◌, true, List, [], ◌∷◌, ◌++◌, length, get_or, refl, ap, sym, subst, ◌∙◌, arith}
 use Rattle.std.proofs.Common.{inl, inr, length-append}
 use Rattle.std.proofs.lemmas.Bool.{ne_eqb, eqb-true, cases_eq}
@@ -33,7 +33,7 @@ collected (suc n) P each =
           subst (P k) (sym (get_or_append_left qs (q ∷ []) 0 k (omega arith))) (earlier k less)
     ]
 
--- numbers below m, one for each place below n and no two the same, are at most m
+-- different numbers below m, one for each place below n, are at most m
 pub at_most : (n m : ℕ) (P : ℕ → ℕ → Type 0) → ((k : ℕ) → k < n → (q : ℕ) × P k q) → ((k q : ℕ) → k < n → P k q → q < m)
     → ((j k q : ℕ) → P j q → P k q → j ≡ k) → n ≤ m
 at_most n m P each below once =

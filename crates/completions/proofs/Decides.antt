@@ -170,7 +170,7 @@ module _ (initial : List ℕ) (events : List Event) (history : IsHistoryFrom ini
         let clash : CallEnq a_is.2.0 ≡ CallDeq = sym a_is.2.1 ∙ ap (λ (e : Event). e.what) one ∙ b_is.2 in cc);
   }
 
-  -- what is known of a history with pending calls, by time
+  -- the completed operations of a history with pending calls, by time
   abbrev done : List Operation
   done = timeline initial (operations_of events)
 
@@ -183,7 +183,7 @@ module _ (initial : List ℕ) (events : List Event) (history : IsHistoryFrom ini
   abbrev dequeuing : List ℕ
   dequeuing = map time_of_call dequeue_calls
 
-  -- a pending dequeue is among those
+  -- a pending dequeue is one of the pending dequeue calls
   dequeue_pends : (call : Event) → Contains events call → IsPendingCall events call → call.what ≡ CallDeq → Contains dequeue_calls call
   dequeue_pends call among pending what =
       passes_filter calls_dequeue (pending_calls events) call (dequeue_is_called call what)
@@ -218,7 +218,7 @@ module _ (initial : List ℕ) (events : List Event) (history : IsHistoryFrom ini
       by_call (RetDeq w) a k what is time = cc
       by_call RetEmpty a k what is time = cc
 
-  -- each completion completes what is known
+  -- each completion completes these operations
   completes : (full : List Event) → IsCompletion initial events full → Completes done Enqueuing dequeuing (timeline initial (operations_of full))
   completes full completion = record {
     complete = timeline_is_complete initial full completion.is_complete few_initial;
@@ -268,7 +268,7 @@ module _ (initial : List ℕ) (events : List Event) (history : IsHistoryFrom ini
         let one = one_by_ticket events l.0 a.call history.tickets_rise l_events pending.0 (omega (arith, l.2, m.2, tickets)) in
         l.1 ∙ ap (λ y. Some y) one
 
-    -- and its return makes an operation
+    -- the return of an answered call makes an operation
     answered_made : (a : Answer) (k : OpKind) → Contains answered a → kind_of a.call.what a.what ≡ Some k
         → (p : Operation) × Contains (operations_of ours) p × (p.call ≡ a.call.ticket) × (p.kind ≡ k)
     answered_made a k among kind =
@@ -319,7 +319,7 @@ module _ (initial : List ℕ) (events : List Event) (history : IsHistoryFrom ini
     abbrev left : List Operation
     left = left_enqueues initial events
 
-    -- a dequeue of a value by time gave it
+    -- if a dequeue by time has this value, a dequeue gave it
     given_if_done : (d : Operation) (v : ℕ) → Did done d (Deq v) → is_given events v ≡ true
     given_if_done d v did = elim (in_timeline initial (operations_of events) d did.0) [
       | inl first ↦ let kind = (enqueue_in (ORIGIN - length initial) initial d first).0 in let clash : Enq kind.0 ≡ Deq v = sym kind.1 ∙ did.1 in cc
@@ -377,7 +377,7 @@ module _ (initial : List ℕ) (events : List Event) (history : IsHistoryFrom ini
 
     -- ---- the chosen completion
 
-    -- an added return ends an enqueue of a given value, or a dequeue of one that is left
+    -- an added return ends an enqueue of a given value, or a dequeue of a value that is left
     added : (call r : Event) (p : Operation) → Contains events call → IsPendingCall events call → Contains rets r → call.thread ≡ r.thread
         → operation_of call (Some r) ≡ Some p
         → (last < p.ret + ORIGIN) × (EnqueuesGiven done Enqueuing dequeuing (later_by ORIGIN p) ⊎ ((v : ℕ) × GivesLeft done Enqueuing dequeuing left (later_by ORIGIN p) v))
@@ -500,7 +500,7 @@ module _ (initial : List ℕ) (events : List Event) (history : IsHistoryFrom ini
             by_found None here is = cc
             by_found (Some c) here is = (c, here, (let e : Some (time_of_call c) ≡ Some time = is in cc))
 
-    -- so it decides
+    -- so the chosen completion decides
     pub decides : IsDeciding initial events ours
     decides = record {
       completion = is_ours;

@@ -1,4 +1,4 @@
--- What is violated in the chosen completion is violated in each completion. So the chosen one decides.
+-- Each violation of the chosen completion is one of every completion. So the chosen one decides.
 use Rattle.std.proofs.Common.{◌≡◌, ℕ, zero, suc, ◌<◌, ◌≤◌, ◌⊎◌, inl, inr, List, [], ◌∷◌, length, Option, Some, None, refl, ap, sym, subst, ◌∙◌, arith}
 use Rattle.std.specs.Prelude.{AllPairs, Contains, MatchOption, find, slice_get}
 use Rattle.std.proofs.lemmas.Bool.{cases_lt, cases_eq}
@@ -27,7 +27,7 @@ use Rattle.completions.proofs.Counting.{at_most}
 abbrev pub NoViolation : List Operation → Type 0
 NoViolation operations = (violation : FullViolation) → ¬ (IsViolationOf (on operations) violation)
 
--- the call that would enqueue a value, if it is among the operations
+-- an operation of this kind calls to enqueue the value, or doesn't
 calls_or_not : (v : ℕ) (k : OpKind) → ((k ≡ Enq v) ⊎ (k ≡ Not v)) ⊎ ¬ ((k ≡ Enq v) ⊎ (k ≡ Not v))
 calls_or_not v (Enq w) = elim (cases_eq w v) [
   | inl same ↦ inl (inl (ap (λ u. Enq u) same))
@@ -77,7 +77,7 @@ by_place key xs i k x y rise at_x at_y near = elim (cases_eq k i) [
 same_value : (u w : ℕ) (c d : Operation) → c ≡ d → c.kind ≡ Deq u → d.kind ≡ Deq w → u ≡ w
 same_value u w c d one is_c is_d = let e : Deq u ≡ Deq w = sym is_c ∙ ap (λ (o : Operation). o.kind) one ∙ is_d in cc
 
--- at each gap from the frontier on some value of a cover is in the queue
+-- at each gap from the frontier on, some value of a cover is in the queue
 covered_at : (operations : List Operation) (empty : Operation) (cover : List Life) (frontier gap : ℕ) → CoversFrom (on operations) empty frontier cover
     → frontier ≤ gap → gap < empty.ret → (life : Life) × IsLife (on operations) life × Covers life gap
 covered_at operations empty [] frontier gap covers from before = absurd covers
@@ -88,8 +88,8 @@ covered_at operations empty (life ∷ next ∷ rest) frontier gap covers from be
   | inr gone ↦ covered_at operations empty (next ∷ rest) (dequeue_call life) gap covers.3 gone before
 ]
 
--- ---- what completes a history with pending calls: `done` are its completed operations, behind enqueues of the initial values, and a
--- pending enqueue has its call and its value, a pending dequeue its call
+-- ---- the completion of a history with pending calls: `done` are its completed operations, after enqueues of the
+-- initial values; a pending enqueue has its call and its value, a pending dequeue its call
 
 module _ (done : List Operation) (Enqueuing : ℕ → ℕ → Type 0) (dequeuing : List ℕ) where
   -- a pending call that has a return, with any answer
@@ -107,11 +107,12 @@ module _ (done : List Operation) (Enqueuing : ℕ → ℕ → Type 0) (dequeuing
   abbrev pub EnqueuesGiven : Operation → Type 0
   EnqueuesGiven o = (v : ℕ) × Enqueuing o.call v × (o.kind ≡ Enq v) × ((d : Operation) × Did done d (Deq v))
 
-  -- the i-th pending dequeue, which gives the i-th of the values that are left
+  -- the i-th pending dequeue, which gives the i-th value that is left
   abbrev pub GivesLeft : List Operation → Operation → ℕ → Type 0
   GivesLeft left o v = (i : ℕ) × (x : Operation) × (slice_get dequeuing i ≡ Some o.call) × (slice_get left i ≡ Some x) × (x.kind ≡ Enq v) × (o.kind ≡ Deq v)
 
-  -- the chosen completion: the enqueues of the values that are left, by their returns, and what ends after the last ticket
+  -- the chosen completion: the enqueues of the values that are left, by their returns, and the calls that end after
+  -- the last ticket
   pub record Chosen (left : List Operation) (last : ℕ) (ours : List Operation) : Type 0 where
     pub complete : AreComplete ours
     pub keeps : (o : Operation) → Contains done o → Contains ours o
@@ -144,11 +145,11 @@ module _ (done : List Operation) (Enqueuing : ℕ → ℕ → Type 0) (dequeuing
       | inr (late, inr gives) ↦ chosen.dequeue_called o.call (contains_at dequeuing gives.1.0 o.call gives.1.2)
     ]
 
-    -- what returned before a call is completed
+    -- an operation that returned before a call is completed
     is_done : (o : Operation) → Contains ours o → o.ret ≤ last → Contains done o
     is_done o among early = elim (chosen.from o among) [ inl old ↦ old | inr (late, _) ↦ absurd (omega (arith, late, early)) ]
 
-    -- a value that is left stands at one place
+    -- a value that is left has one place
     left_once : (i j v : ℕ) (x y : Operation) → slice_get left i ≡ Some x → slice_get left j ≡ Some y → x.kind ≡ Enq v → y.kind ≡ Enq v → i ≡ j
     left_once i j v x y at_x at_y is_x is_y =
         let in_x = (chosen.left_is x (contains_at left i x at_x)).1.0 in
@@ -156,7 +157,7 @@ module _ (done : List Operation) (Enqueuing : ℕ → ℕ → Type 0) (dequeuing
         let one = same_enqueue full x y v is.complete (is.keeps x in_x, is_x) (is.keeps y in_y, is_y) in
         (one_by_key (λ (o : Operation). o.ret) left i j x y chosen.left_rises at_x at_y (ap (λ (o : Operation). o.ret) one)).0
 
-    -- what gives a value that is left is one dequeue
+    -- a value that is left is given by one dequeue
     one_gives : (o p : Operation) (v : ℕ) → Contains ours o → Contains ours p → GivesLeft left o v → GivesLeft left p v → o ≡ p
     one_gives o p v in_o in_p gives_o gives_p =
         let same = left_once gives_o.0 gives_p.0 v gives_o.1 gives_p.1 gives_o.3 gives_p.3 gives_o.4 gives_p.4 in
@@ -173,7 +174,7 @@ module _ (done : List Operation) (Enqueuing : ℕ → ℕ → Type 0) (dequeuing
           inr (late, (g.0, g.1, g.2, g.3, subst (λ (u : ℕ). g.1.kind ≡ Enq u) same g.4, did.1))
     ]
 
-    -- the dequeue in each completion of a value that is left ends a pending call
+    -- a dequeue of a value that is left ends a pending call, in each completion
     ends_pending : (d : Operation) (v : ℕ) → Did full d (Deq v) → NoneDid done (Deq v) → (q : ℕ) × (slice_get dequeuing q ≡ Some d.call)
     ends_pending d v did not_done = elim (is.from d did.0) [
       | inl old ↦ absurd (not_done d old did.1)
@@ -189,14 +190,14 @@ module _ (done : List Operation) (Enqueuing : ℕ → ℕ → Type 0) (dequeuing
     abbrev is_life : (x : Operation) (v : ℕ) → Did full x (Enq v) → IsLife (on full) (life_of x v)
     is_life x v did = (v, did, found_dequeue full v (find (is_dequeue_of v) full) refl)
 
-    -- each value that is left and returned no later than x is given by a dequeue that was called by this time
+    -- each value that is left and was returned no later than x is given by a dequeue called by this time
     abbrev GoneBy : ℕ → Operation → Type 0
     GoneBy time x = (y : Operation) (w : ℕ) → Did done y (Enq w) → NoneDid done (Deq w) → y.ret ≤ x.ret → dequeue_call (life_of y w) ≤ time
 
-    -- so a pending dequeue gives x, and was called by then: there are as many pending dequeues as values
+    -- so a pending dequeue gives x, and was called by then, since there are as many pending dequeues as values
     module _ (x : Operation) (v time : ℕ) (did_x : Did done x (Enq v)) (not_taken : NoneDid done (Deq v)) (low : time < NEVER)
         (gone : GoneBy time x) where
-      -- the k-th value that is left is given by the q-th pending dequeue, by then
+      -- the k-th value that is left is given by the q-th pending dequeue, by that time
       abbrev IsGivenBy : ℕ → ℕ → Type 0
       IsGivenBy k q = (y : Operation) × (w : ℕ) × (d : Operation) × (slice_get left k ≡ Some y) × Did done y (Enq w) × Did full d (Deq w)
           × (slice_get dequeuing q ≡ Some d.call) × (d.call ≤ time)
@@ -247,9 +248,10 @@ module _ (done : List Operation) (Enqueuing : ℕ → ℕ → Type 0) (dequeuing
           let place = place_of left x (chosen.left_has x v did_x not_taken) in
           given place.0 place.1 (slice_get dequeuing place.0) refl
 
-    -- ---- a value of the chosen completion, and its enqueue in this one
+    -- ---- a value of the chosen completion, and its enqueue in another
 
-    -- what this completion enqueues, and a completed dequeue gave, ours enqueues by the same call
+    -- a value that the other completion enqueues, and a completed dequeue gave, is enqueued by the same call in the
+    -- chosen one
     ours_enqueues : (e d : Operation) (v : ℕ) → Did done d (Deq v) → Did full e (Enq v) → (o : Operation) × Did ours o (Enq v) × (o.call ≡ e.call)
     ours_enqueues e d v did_d did_e = elim (is.from e did_e.0) [
       | inl old ↦ (e, (chosen.keeps e old, did_e.1), refl)
@@ -267,7 +269,7 @@ module _ (done : List Operation) (Enqueuing : ℕ → ℕ → Type 0) (dequeuing
         let one = same_enqueue ours o.0 enq v chosen.complete o.1 did_enq in
         sym o.2 ∙ ap (λ (o : Operation). o.call) one
 
-    -- a completed dequeue gives a value that this completion enqueues
+    -- a completed dequeue gives a value that the other completion enqueues
     enqueued_for : (v : ℕ) (d : Operation) → Did done d (Deq v) → (e : Operation) × Did full e (Enq v)
     enqueued_for v d did_d = elim (call_for full v) [
       | inl (e, among, inl k) ↦ (e, (among, k))
@@ -287,13 +289,13 @@ module _ (done : List Operation) (Enqueuing : ℕ → ℕ → Type 0) (dequeuing
         let values : known.0 ≡ v = let e : Enq known.0 ≡ Enq v = sym known.1.1 ∙ is_x in cc in
         ((known.1.0, is_x), subst (λ (u : ℕ). NoneDid done (Deq u)) values known.2)
 
-    -- a value that is left isn't refused as well
+    -- a value that is left isn't that of a failed enqueue
     not_refused : (x o : Operation) (v : ℕ) → Did ours x (Enq v) → Did ours o (Not v) → ⊥
     not_refused x o v did_x did_o =
         let one = same_value_call ours x o v chosen.complete did_x.0 did_o.0 (inl did_x.1) (inr did_o.1) in
         let clash : Enq v ≡ Not v = sym did_x.1 ∙ ap (λ (o : Operation). o.kind) one ∙ did_o.1 in cc
 
-    -- ---- no violation of ours
+    -- ---- the chosen completion has no violation
 
     never_enqueued : (deq : Operation) → IsNeverEnqueued (on ours) deq → ⊥
     never_enqueued deq bad = elim (gives_it deq bad.value bad.dequeues) [
@@ -366,7 +368,7 @@ module _ (done : List Operation) (Enqueuing : ℕ → ℕ → Type 0) (dequeuing
           let call : dequeue_call a ≡ o.call = ap call_or_never is_o in
           omega (arith, less, ret, call)
 
-      -- where a completed dequeue gave b
+      -- a completed dequeue gave b
       module _ (old : Did done d (Deq bad.is_b.0)) where
         enqueue : (e : Operation) × Did full e (Enq bad.is_b.0)
         enqueue = enqueued_for bad.is_b.0 d old
@@ -420,7 +422,7 @@ module _ (done : List Operation) (Enqueuing : ℕ → ℕ → Type 0) (dequeuing
               absurd (omega (arith, dequeued_later o is_found, one, p.3))
         ]
 
-      -- where a pending dequeue gives b
+      -- a pending dequeue gives b
       module _ (late : last < d.ret) (g : GivesLeft left d bad.is_b.0) where
         overtaken_by_left : (found : Option Operation) → dequeue_of a ≡ found
             → MatchOption found (NoneDid ours (Deq bad.is_a.0)) (λ o. Did ours o (Deq bad.is_a.0)) → ⊥
@@ -456,7 +458,7 @@ module _ (done : List Operation) (Enqueuing : ℕ → ℕ → Type 0) (dequeuing
         | inr (late, inr (v, g)) ↦ let e : Deq v ≡ Empty = sym g.5 ∙ bad.answers_empty.1 in cc
       ]
 
-      -- no gap of the window that this completion leaves free is covered
+      -- no gap of the window that is free in the other completion is covered in the chosen one
       module _ (gap : ℕ) (from : empty.call ≤ gap) (to : gap < empty.ret) (free : IsFreeGap (on full) gap) (life : Life) (life_is : IsLife (on ours) life)
           (covers : Covers life gap) where
         old_life : Contains done (enqueue_of life)
@@ -503,7 +505,7 @@ module _ (done : List Operation) (Enqueuing : ℕ → ℕ → Type 0) (dequeuing
             none (witness empty shown.0) shown.2
       ]
 
-    -- so no violation is one of ours
+    -- so the chosen completion has no violation
     pub ours_has_none : NoViolation ours
     ours_has_none (fresh deq None) bad = never_enqueued deq bad
     ours_has_none (fresh deq (Some enq)) bad = enqueued_too_late deq enq bad

@@ -1,4 +1,4 @@
--- One event more, and events left out: what becomes of the operations.
+-- The operations after one more event, and after events are removed.
 use Rattle.std.proofs.Common.{◌≡◌, ℕ, zero, suc, ◌<◌, ◌≤◌, ◌⊎◌, ◌++◌, inl, inr, Bool, true, false, not, List, [], ◌∷◌, length, Option, Some, None}
 use Rattle.std.proofs.Common.{refl, ap, sym, subst, ◌∙◌, arith}
 use Rattle.std.specs.Prelude.{Contains, filter, find, nat_eq, option_and_then, ⊤}
@@ -45,7 +45,7 @@ last_of-cons x xs thread l is = elim (cases_Bool (nat_eq x.thread thread)) [
   | inr other ↦ rw other is
 ]
 
--- where no event of the thread follows, it is the last
+-- if no event of the thread follows, the event is its last
 pub last_of-own : (x : Event) (xs : List Event) → last_of x.thread xs ≡ None → last_of x.thread (x ∷ xs) ≡ Some x
 last_of-own x xs none = let own = eq-eqb x.thread x.thread refl in let nil = last_or-none (projection x.thread xs) none in rw (own, nil) refl
 
@@ -67,7 +67,7 @@ last_if_none (x ∷ xs) thread none = elim (cases_Bool (nat_eq x.thread thread))
   | inr other ↦ rw other (last_if_none xs thread (rw other at none))
 ]
 
--- ---- what calls and returns make
+-- ---- operations of calls and returns
 
 pub no_kind : (call answer : What) → is_call call ≡ false → kind_of call answer ≡ None
 no_kind (CallEnq v) answer e = cc
@@ -88,18 +88,18 @@ no_kind_of_call call RetNot e = cc
 no_kind_of_call call (RetDeq v) e = cc
 no_kind_of_call call RetEmpty e = cc
 
--- where an operation is made, its first event is a call
+-- the first event of an operation is a call
 pub made_by_call : (call answer : Event) (o : Operation) → operation_of call (Some answer) ≡ Some o → is_call call.what ≡ true
 made_by_call call answer o made = elim (cases_Bool (is_call call.what)) [
   | inl is ↦ is
   | inr isnt ↦ let clash : None ≡ Some o = rw (no_kind call.what answer.what isnt, operation_of) at made in cc
 ]
 
--- an element that is there comes first
+-- an optional element, if there is one, comes first
 pub head_option : {X : Type 0} (made : Option X) (xs : List X) (o : X) → made ≡ Some o → Contains (cons_option made xs) o
 head_option made xs o is = rw is (zero, omega arith, refl)
 
--- operations stay, whatever comes after
+-- operations stay when events are added
 pub operations_keep : (xs more : List Event) (o : Operation) → Contains (operations_of xs) o → Contains (operations_of (xs ++ more)) o
 operations_keep [] more o among = absurd (not_in_none o among)
 operations_keep (x ∷ xs) more o among =
@@ -144,7 +144,7 @@ operations_made (x ∷ xs) e call o last made = by_later (last_of e.thread xs) r
       | inr other ↦ let clash : None ≡ Some call = sym is ∙ sym (last_of-other x xs e.thread other) ∙ last in cc
     ]
 
--- and no other operation comes by it
+-- no other operation is made by it
 pub operations_push : (xs : List Event) (e : Event) (o : Operation) → Contains (operations_of (xs ++ e ∷ [])) o
     → Contains (operations_of xs) o ⊎ ((call : Event) × (last_of e.thread xs ≡ Some call) × (operation_of call (Some e) ≡ Some o))
 operations_push [] e o among = elim (contains_cons_option (operation_of e None) [] o among) [ inl made ↦ cc | inr none ↦ inl none ]
@@ -172,7 +172,7 @@ operations_push (x ∷ xs) e o among =
       | inr other ↦ let clash : None ≡ Some o = rw (is, other) at made in cc
     ]
 
--- ---- events left out, each the last of its thread and a call
+-- ---- removed events, each a call and the last event of its thread
 
 abbrev pub OnlyLast : (Event → Bool) → List Event → Type 0
 OnlyLast out [] = ⊤
@@ -181,7 +181,7 @@ OnlyLast out (e ∷ later) = (out e ≡ true → (is_call e.what ≡ true) × (l
 abbrev pub keeping : (Event → Bool) → List Event → List Event
 keeping out events = filter (λ e. not (out e)) events
 
--- where none is found, none is found among fewer
+-- if no event of the thread follows, none follows among fewer
 none_kept : (out : Event → Bool) (e : Event) (xs : List Event) → next_after e xs ≡ None → next_after e (keeping out xs) ≡ None
 none_kept out e [] none = refl
 none_kept out e (x ∷ xs) none = elim (cases_Bool (nat_eq x.thread e.thread)) [
@@ -191,7 +191,7 @@ none_kept out e (x ∷ xs) none = elim (cases_Bool (nat_eq x.thread e.thread)) [
       elim (cases_Bool (out x)) [ inl gone ↦ rw gone rest | inr stays ↦ rw (stays, other) rest ]
 ]
 
--- what an event makes with the next of its thread stays the same
+-- the operation of an event and the next one of its thread stays the same
 next_kept : (out : Event → Bool) (e : Event) (xs : List Event) → OnlyLast out xs
     → operation_of e (next_after e (keeping out xs)) ≡ operation_of e (next_after e xs)
 next_kept out e [] only = refl
@@ -211,7 +211,7 @@ next_kept out e (x ∷ xs) only = elim (cases_Bool (nat_eq x.thread e.thread)) [
       elim (cases_Bool (out x)) [ inl gone ↦ rw (gone, other) rest | inr stays ↦ rw (stays, other) rest ]
 ]
 
--- the operations stay
+-- the operations stay the same
 pub operations_kept : (out : Event → Bool) (xs : List Event) → OnlyLast out xs → operations_of (keeping out xs) ≡ operations_of xs
 operations_kept out [] only = refl
 operations_kept out (x ∷ xs) only =
@@ -250,7 +250,7 @@ last_in (x ∷ xs) thread l last = by_rest (last_of thread xs) refl (last_in xs 
       | inr other ↦ let clash : None ≡ Some l = sym is ∙ sym (last_of-other x xs thread other) ∙ last in cc
     ]
 
--- each event of a thread comes no later than the last
+-- each event of a thread comes no later than its last
 pub last_above : (xs : List Event) (e : Event) → Contains xs e → TicketsRise xs
     → (l : Event) × (last_of e.thread xs ≡ Some l) × (e.ticket ≤ l.ticket)
 last_above [] e among rise = absurd (not_in_none e among)
@@ -283,7 +283,7 @@ pending_is_last thread xs e = waits (last_of thread xs)
 pub last_is_pending : (thread : ℕ) (xs : List Event) (e : Event) → last_of thread xs ≡ Some e → is_call e.what ≡ true → pending_call thread xs ≡ Some e
 last_is_pending thread xs e last call = rw last (rw call refl)
 
--- pending calls alone are left out
+-- only pending calls are removed
 pub only_last : (out : Event → Bool) (events : List Event) → TicketsRise events
     → ((e : Event) → Contains events e → out e ≡ true → pending_call e.thread events ≡ Some e) → OnlyLast out events
 only_last out [] rise pending = tt
@@ -311,7 +311,7 @@ only_last out (x ∷ xs) rise pending = (here, only_last out xs (rises_later x x
 
 -- ---- events that are added at the end
 
--- an operation that comes by later events is made by one of them, with the last event of its thread
+-- an operation made by later events is that of one of them and the last event of its thread
 pub made_later : (front rest : List Event) (o : Operation) → Contains (operations_of (front ++ rest)) o
     → Contains (operations_of front) o ⊎ ((before : List Event) × (r : Event) × (after : List Event) × (call : Event) × (rest ≡ before ++ r ∷ after)
     × (last_of r.thread (front ++ before) ≡ Some call) × (operation_of call (Some r) ≡ Some o))
@@ -329,7 +329,7 @@ made_later front (r ∷ rest) o among =
           inr (r ∷ before, s, after, call, ap (λ (es : List Event). r ∷ es) is, subst (λ (es : List Event). last_of s.thread es ≡ Some call) moved last, made)
     ]
 
--- events of other threads change nothing of a thread's last event
+-- events of other threads don't change a thread's last event
 pub last_of-append : (xs ys : List Event) (thread : ℕ) → last_of thread ys ≡ None → last_of thread (xs ++ ys) ≡ last_of thread xs
 last_of-append xs ys thread none =
     let nil : projection thread ys ≡ [] = last_or-none (projection thread ys) none in

@@ -1,4 +1,4 @@
--- Events without a fault but pending calls are a history.
+-- Events without a fault, except for pending calls, are a history.
 use Rattle.std.proofs.Common.{◌≡◌, ℕ, suc, ◌+◌, ◌≤◌, ◌++◌, inl, inr, true, false, not, List, [], ◌∷◌, length, Option}
 use Rattle.std.proofs.Common.{Some, None, refl, ap, sym, subst, ◌∙◌, arith, length-append}
 use Rattle.std.specs.Prelude.{Contains, filter, filter_map, IfOk, IsErrAnd, OnOk, MatchOption, Result, Ok, Err}
@@ -70,12 +70,12 @@ complete_is_history initial events whole = record {
 
 -- ---- events without a fault
 
--- what a history builder takes but for pending calls is a history
+-- events that a history builder accepts, except for pending calls, are a history
 pending_is_history : (initial : List ℕ) (events : List Event) (ticket : ℕ) → IsFirstFault initial events (Pending ticket) → IsHistoryFrom initial events
 pending_is_history initial events ticket (distinct, none, least) =
     sound_is_history initial events (sound_without_fault initial events distinct none)
 
--- ---- a complete history stays as it is
+-- ---- a complete history is unchanged
 
 none_pending : (initial : List ℕ) (events : List Event) → IsCompleteFrom initial events → (e : Event) → Contains events e → is_pending events e ≡ false
 none_pending initial events whole e among = elim (cases_Bool (is_pending events e)) [
@@ -96,7 +96,7 @@ complete_stays initial events whole =
     ap (λ (es : List Event). es ++ returns_from (next_ticket events) (answers_to initial events)) stay
     ∙ ap (λ (l : List Answer). events ++ returns_from (next_ticket events) l) no_answers ∙ append-nil events
 
--- ---- how long the completion is
+-- ---- the length of the completion
 
 length_returns : (n : ℕ) (answers : List Answer) → length (returns_from n answers) ≡ length answers
 length_returns n [] = refl
@@ -110,7 +110,7 @@ length_completed initial events =
     let rets = length_returns (next_ticket events) (answers_to initial events) in
     omega (arith, parts, rets)
 
--- what holds of a result's value gives what else holds of it
+-- a property of a result's value follows from another
 pub when_ok : {T E : Type 0} (r : Result T E) (P Q : T → Type 0) → ((x : T) → P x → Q x) → IfOk r P → IfOk r Q
 when_ok (Ok x) P Q each is = each x is
 when_ok (Err e) P Q each is = is
@@ -131,7 +131,7 @@ pub on_ok : {T E : Type 0} (r : Result T E) (P Q : Type 0) → (P → Q) → OnO
 on_ok (Ok x) P Q then is = then is
 on_ok (Err e) P Q then is = is
 
--- so are events whose first fault, if there is one, is that a call is pending
+-- events are a history if they have no fault, or if the first is that a call is pending
 pub may_be_pending : (initial : List ℕ) (events : List Event) → MayBePending initial events → IsHistoryFrom initial events
 may_be_pending initial events (inl whole) = complete_is_history initial events whole
 may_be_pending initial events (inr (ticket, first)) = pending_is_history initial events ticket first
@@ -153,7 +153,7 @@ pub known_ok : {T E : Type 0} (r : Result T E) (P : Type 0) → P → OnOk r P
 known_ok (Ok x) P is = is
 known_ok (Err e) P is = tt
 
--- a `?` that carries a fault on answers that fault
+-- a fault passed on by `?` is the result
 pub carries : {T E : Type 0} (r : Result T E) (fault : E) → IsErrAnd r (λ y. y ≡ fault) → r ≡ Err fault
 carries (Ok x) fault is = absurd is
 carries (Err y) fault is = cc

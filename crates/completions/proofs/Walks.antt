@@ -1,4 +1,4 @@
--- Walks over events: what is kept of each thread, and the lists that come of it.
+-- Walks over events: the state of each thread, and the lists that are made.
 use Rattle.std.proofs.Common.{◌≡◌, ℕ, zero, suc, ◌+◌, ◌-◌, ◌<◌, ◌≤◌, ◌⊎◌, ◌++◌, inl, inr, Bool, true, false, List, [], ◌∷◌, length, get_or, set}
 use Rattle.std.proofs.Common.{take, not, Option, Some, None, Result, Ok, Err, refl, ap, sym, subst, ◌∙◌, arith}
 use Rattle.std.proofs.Common.{ap₂, get_or-set_other, get_or-set_same, length-set}
@@ -27,11 +27,11 @@ use Rattle.completions.specs.Pending.{IsHistoryFrom, IsPendingCall}
 use Rattle.completions.specs.declared.walk.Walk.{Walk}
 use Rattle.history_merge.proofs.Lists.{option_cons, all_members}
 
--- what stands past the end of a list of events
+-- an event for places past the end of a list
 abbrev pub past_end : Event
 past_end = record { ticket = 0; thread = 0; what = CallEnq 0 }
 
--- one event more
+-- one more event
 pub noted : (events : List Event) (last : List (Option Event)) (e : Event) (t : ℕ) → t ≡ e.thread → t < MAX_THREADS → AreLast events last
     → AreLast (events ++ e ∷ []) (set last t (Some e))
 noted events last e t is below are = (
@@ -59,7 +59,7 @@ contained_is_given events given v are among =
     let there = (are.0 v).1 among in
     list_any_at (λ w. nat_eq w v) (given_values events) there.0 v there.1 (eq-eqb (get_or (given_values events) there.0 v) v there.2)
 
--- so is one that stands at a place
+-- a value at a place of the given ones was given
 pub stands_if_given : (events : List Event) (given : List ℕ) (v i d : ℕ) → AreGiven events given → i < length given → get_or given i d ≡ v
     → is_given events v ≡ true
 stands_if_given events given v i d are below is =
@@ -95,7 +95,7 @@ cons_append : {X : Type 0} (o : Option X) (xs ys : List X) → cons_option o (xs
 cons_append None xs ys = refl
 cons_append (Some x) xs ys = refl
 
--- one event more that passes, or doesn't
+-- one more event that passes, or doesn't
 pub filtered_more : (p : Event → Bool) (xs : List Event) (i : ℕ) (d : Event) → i < length xs → p (get_or xs i d) ≡ true
     → filter p (take (i + 1) xs) ≡ filter p (take i xs) ++ get_or xs i d ∷ []
 filtered_more p xs i d below is = ap (filter p) (take_more xs i d below) ∙ filter-append p (take i xs) (get_or xs i d ∷ []) ∙ rw is refl
@@ -112,12 +112,12 @@ counted_more p xs i d n below is counted =
     let more = ap (λ (l : List Event). length l) (filtered_more p xs i d below is) in
     omega (arith, more, counted, length-append (filter p (take i xs)) (get_or xs i d ∷ []))
 
--- none is counted
+-- no more are counted
 pub counted_same : (p : Event → Bool) (xs : List Event) (i : ℕ) (d : Event) (n : ℕ) → i < length xs → p (get_or xs i d) ≡ false
     → n ≡ length (filter p (take i xs)) → n ≡ length (filter p (take (i + 1) xs))
 counted_same p xs i d n below is counted = counted ∙ ap (λ (l : List Event). length l) (sym (filtered_same p xs i d below is))
 
--- what is made of one event more
+-- one more element gives a value
 pub made_more : {X Y : Type 0} (h : X → Option Y) (xs : List X) (i : ℕ) (d : X) (y : Y) → i < length xs → h (get_or xs i d) ≡ Some y
     → filter_map h (take (i + 1) xs) ≡ filter_map h (take i xs) ++ y ∷ []
 made_more h xs i d y below is = ap (filter_map h) (take_more xs i d below) ∙ filter_map-append h (take i xs) (get_or xs i d ∷ []) ∙ rw is refl
@@ -127,7 +127,7 @@ pub made_same : {X Y : Type 0} (h : X → Option Y) (xs : List X) (i : ℕ) (d :
 made_same h xs i d below is =
     ap (filter_map h) (take_more xs i d below) ∙ filter_map-append h (take i xs) (get_or xs i d ∷ []) ∙ rw is (append-nil (filter_map h (take i xs)))
 
--- what isn't the return of a value gives none
+-- an event other than the return of a value gives none
 pub not_given : (what : What) → ((v : ℕ) → what ≡ RetDeq v → ⊥) → given_value what ≡ None
 not_given (RetDeq v) other = absurd (other v refl)
 not_given (CallEnq v) other = refl
@@ -136,7 +136,7 @@ not_given RetEnq other = refl
 not_given RetNot other = refl
 not_given RetEmpty other = refl
 
--- sorted, they are those that were given
+-- the sorted values are those that were given
 pub sorted_are_given : (events : List Event) (given sorted : List ℕ) → given ≡ given_values events → IsPermutation given sorted
     → IsNonDecreasingBy (λ x. x) sorted → AreGiven events sorted
 sorted_are_given events given sorted is moved rises = (
@@ -147,7 +147,7 @@ sorted_are_given events given sorted is moved rises = (
   λ i j near inside. rises i j 0 near inside,
 )
 
--- the values that are taken by one event more
+-- the values taken by one more event
 taken_push : (before xs : List Event) (e : Event) → taken_values before (xs ++ e ∷ []) ≡ taken_values before xs ++ option_to_list (taken_value (before ++ xs) e)
 taken_push before [] e =
     option_cons (taken_value before e) [] ∙ append-nil (option_to_list (taken_value before e))
@@ -158,13 +158,13 @@ taken_push before (x ∷ xs) e =
     ∙ ap (λ (es : List Event). cons_option (taken_value before x) (taken_values (before ++ x ∷ []) xs) ++ option_to_list (taken_value es e))
     (append_assoc before (x ∷ []) xs)
 
--- the values that are given by one event more
+-- the values given by one more event
 given_push : (events : List Event) (e : Event) → given_values (events ++ e ∷ []) ≡ given_values events ++ option_to_list (given_value e.what)
 given_push events e =
     filter_map-append (λ (x : Event). given_value x.what) events (e ∷ [])
     ∙ ap (λ (l : List ℕ). given_values events ++ l) (option_cons (given_value e.what) [] ∙ append-nil (option_to_list (given_value e.what)))
 
--- one event more is noted
+-- one more event is noted
 pub walked_on : (events : List Event) (e : Event) (old new : Walk) → HasWalked events old → AreLast (events ++ e ∷ []) new.last
     → new.given.items ≡ old.given.items ++ option_to_list (given_value e.what)
     → new.taken.items ≡ old.taken.items ++ option_to_list (taken_value events e) → HasWalked (events ++ e ∷ []) new
@@ -174,7 +174,7 @@ walked_on events e old new walked last given taken = record {
   taken = taken ∙ ap (λ (l : List ℕ). l ++ option_to_list (taken_value events e)) walked.taken ∙ sym (taken_push [] events e);
 }
 
--- what isn't the return of an enqueue takes no value
+-- an event other than the return of an enqueue takes no value
 pub not_taken : (before : List Event) (e : Event) → (e.what ≡ RetEnq → ⊥) → taken_value before e ≡ None
 not_taken before e other = by_what e.what other
   where
@@ -186,7 +186,7 @@ not_taken before e other = by_what e.what other
     by_what (RetDeq v) other = refl
     by_what RetEmpty other = refl
 
--- before an event with a lesser ticket than each pending call none is pending
+-- before an event whose ticket is below that of each pending call, no call is pending
 pub none_before : (initial : List ℕ) (events : List Event) (n least : ℕ) → IsHistoryFrom initial events → 0 < n → n ≤ length events
     → (get_or events (n - 1) past_end).ticket < least
     → ((call : Event) → call.thread ≤ MAX_THREAD → IsPendingCall events call → least ≤ call.ticket)
@@ -219,13 +219,13 @@ none_before initial events n least history some few below each = all_members (λ
 pub filter_no : (p : Event → Bool) (xs : List Event) → All (λ e. p e ≡ false) xs → filter p xs ≡ []
 filter_no p xs none = filter_none p xs (λ x among. subst (λ y. p y ≡ false) among.2 (none among.0 x among.1))
 
--- of events none of which is pending none is left out
+-- if none of the events is pending, none is removed
 pub all_stay : (events xs : List Event) (answers : List Answer) → All (λ e. is_pending events e ≡ false) xs
     → filter (λ e. not (is_left_out events answers e)) xs ≡ xs
 all_stay events xs answers none = filter_all (λ e. not (is_left_out events answers e)) xs
     (λ x among. rw (subst (λ y. is_pending events y ≡ false) among.2 (none among.0 x among.1)) refl)
 
--- one element more of a list that is filtered
+-- one more element of a filtered list
 pub filter_more : {X : Type 0} (p : X → Bool) (xs : List X) (i : ℕ) (d : X) → i < length xs
     → filter p (take (i + 1) xs) ≡ filter p (take i xs) ++ filter p (get_or xs i d ∷ [])
 filter_more p xs i d below = ap (filter p) (take_more xs i d below) ∙ filter-append p (take i xs) (get_or xs i d ∷ [])
@@ -237,7 +237,7 @@ filter_one p x is = rw is refl
 pub filter_not : {X : Type 0} (p : X → Bool) (x : X) (xs : List X) → p x ≡ false → xs ++ filter p (x ∷ []) ≡ xs
 filter_not p x xs is = rw is (append-nil xs)
 
--- one pair more
+-- one more pair
 paired_push : (calls : List Event) (values : List ℕ) (c : Event) (v : ℕ) → length calls ≡ length values
     → paired (calls ++ c ∷ []) (values ++ v ∷ []) ≡ paired calls values ++ record { call = c; what = RetDeq v } ∷ []
 paired_push [] [] c v same = refl
@@ -254,7 +254,7 @@ paired_more calls values i in_calls in_values =
     ∙ paired_push (take i calls) (take i values) (get_or calls i past_end) (get_or values i 0)
     (length-take-le i calls (omega arith) ∙ sym (length-take-le i values (omega arith)))
 
--- as many as there are of both are all
+-- the pairs are all there are if the calls or the values are used up
 pub paired_all : (calls : List Event) (values : List ℕ) (n : ℕ) → (length calls ≤ n) ⊎ (length values ≤ n)
     → paired (take n calls) (take n values) ≡ paired calls values
 paired_all [] values zero enough = refl
@@ -268,11 +268,11 @@ paired_all (x ∷ calls) (w ∷ values) (suc n) (inl few) =
 paired_all (x ∷ calls) (w ∷ values) (suc n) (inr few) =
     ap (λ (l : List Answer). record { call = x; what = RetDeq w } ∷ l) (paired_all calls values n (inr (omega (arith, few))))
 
--- what stands past the end of a list of answers
+-- an answer for places past the end of a list
 abbrev pub no_answer : Answer
 no_answer = record { call = past_end; what = CallEnq 0 }
 
--- one return more
+-- one more return
 pub returns_more : (n : ℕ) (answers : List Answer) (i : ℕ) (d : Answer) → i < length answers
     → returns_from n (take (i + 1) answers)
     ≡ returns_from n (take i answers) ++ record { ticket = n + i; thread = (get_or answers i d).call.thread; what = (get_or answers i d).what } ∷ []
@@ -282,7 +282,7 @@ returns_more n answers i d below =
     ∙ ap (λ (m : ℕ). returns_from n (take i answers) ++ record { ticket = n + m; thread = a.call.thread; what = a.what } ∷ [])
     (length-take-le i answers (omega arith))
 
--- the last event is read at the last place
+-- the last event is at the last place
 last_at : (xs : List Event) (n : ℕ) (l : Event) → suc n ≡ length xs → slice_get xs n ≡ Some l → last_or None xs ≡ Some l
 last_at [] n l long at = absurd (omega (arith, long))
 last_at (x ∷ []) zero l long at = at

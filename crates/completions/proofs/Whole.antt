@@ -34,7 +34,7 @@ use Rattle.history_merge.proofs.Lists.{contains_head, one_deeper, kept, keeps, p
 pub pairs_none : {X : Type 0} (R : X → X → Type 0) → AllPairs R []
 pairs_none R i j d below inside = absurd (omega arith)
 
--- what is made of some elements of a list of pairs
+-- a relation of pairs holds of the values made of elements
 pub pairs_made : {X Y : Type 0} (R : X → X → Type 0) (S : Y → Y → Type 0) (h : X → Option Y) (xs : List X)
     → ((x y : X) (b c : Y) → h x ≡ Some b → h y ≡ Some c → R x y → S b c) → AllPairs R xs → AllPairs S (filter_map h xs)
 pairs_made R S h [] each pairs = pairs_none S
@@ -59,7 +59,7 @@ pairs_across {X} R (z ∷ xs) ys x y pairs in_x in_y = elim (contains_cons z xs 
   | inr there ↦ pairs_across R xs ys x y (AllPairs-tail R z (xs ++ ys) pairs) there in_y
 ]
 
--- ---- distinct values stay distinct where some events are left out
+-- ---- distinct values stay distinct when some events are removed
 
 called_still : (p : Event → Bool) (events : List Event) (v : ℕ) → Contains (called_values (filter p events)) v → Contains (called_values events) v
 called_still p events v among =
@@ -94,7 +94,7 @@ distinct_kept p initial events distinct =
 
 -- ---- the events of a thread, and its pending call
 
--- whole turns, or whole turns and a pending call
+-- complete turns, or complete turns and a pending call
 turns_split : (xs : List Event) → TakesTurnsSoFar xs
     → TakesTurns xs ⊎ ((done : List Event) × (call : Event) × (xs ≡ done ++ call ∷ []) × TakesTurns done × (is_call call.what ≡ true))
 turns_split [] turns = inl tt
@@ -186,7 +186,7 @@ no_called (r ∷ rest) rets =
 
 -- ---- answers
 
--- two tests that are both passed, and one of two that isn't
+-- if a conjunction holds, so does each part
 and_true : (a b : Bool) → (a && b) ≡ true → (a ≡ true) × (b ≡ true)
 and_true true b is = (refl, is)
 and_true false b is = cc
@@ -196,7 +196,7 @@ and_false true b is = ap not is
 and_false false b is = refl
 
 module _ (initial : List ℕ) (events : List Event) (history : IsHistoryFrom initial events) where
-  -- what is pending by the test is pending, and the other way round
+  -- a call is pending by the test if and only if it is pending
   pub pending_by_test : (e : Event) → Contains events e → is_pending events e ≡ true → IsPendingCall events e
   pending_by_test e among test =
       let last = last_above events e among history.tickets_rise in
@@ -265,7 +265,7 @@ module _ (initial : List ℕ) (events : List Event) (history : IsHistoryFrom ini
           absurd (omega (arith, tickets, less))
     ]
 
-    -- in a thread without a pending call all stays and nothing returns
+    -- in a thread without a pending call all events stay and none is added
     turns_of_idle : (t : ℕ) → TakesTurns (projection t events) → TakesTurns (keeping out (projection t events) ++ projection t returns)
     turns_of_idle t whole =
         let idle : pending_call t events ≡ None = nothing_after_turns (projection t events) whole in
@@ -281,7 +281,7 @@ module _ (initial : List ℕ) (events : List Event) (history : IsHistoryFrom ini
         subst TakesTurns (sym (ap (λ (es : List Event). keeping out (projection t events) ++ es) none
         ∙ append-nil (keeping out (projection t events)) ∙ stay)) whole
 
-    -- in a thread with a pending call this returns, or is left out
+    -- in a thread with a pending call, this returns or is removed
     turns_of_pending : (t : ℕ) (done : List Event) (call : Event) → projection t events ≡ done ++ call ∷ [] → TakesTurns done → is_call call.what ≡ true
         → TakesTurns (keeping out (projection t events) ++ projection t returns)
     turns_of_pending t done call is whole waits =

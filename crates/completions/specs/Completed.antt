@@ -29,7 +29,7 @@ given_values events = filter_map (λ e. given_value e.what) events
 abbrev pub is_given : List Event → ℕ → Bool
 is_given events v = list_any (λ w. nat_eq w v) (given_values events)
 
--- the value that a return says to be taken, of the call that was pending before it
+-- the value of a successful enqueue that this event returns from, by the call that was pending before
 abbrev pub taken_value : List Event → Event → Option ℕ
 taken_value before e = elim e.what [
   | RetEnq ↦ option_and_then (λ call. called_value call.what) (pending_call e.thread before)
@@ -49,7 +49,7 @@ left_values initial events = filter (λ v. not (is_given events v)) (initial ++ 
 abbrev pub pending_calls : List Event → List Event
 pending_calls events = filter (is_pending events) events
 
--- a pending enqueue is answered, as taken, if a dequeue gave its value
+-- the answer to a pending enqueue whose value a dequeue gave: that it succeeded
 abbrev pub enqueue_answer : List Event → Event → Option Answer
 enqueue_answer events call =
     option_and_then (λ v. (if is_given events v then Some (record { call = call; what = RetEnq }) else None)) (called_value call.what)
@@ -58,7 +58,7 @@ enqueue_answer events call =
 abbrev pub calls_dequeue : Event → Bool
 calls_dequeue e = elim e.what [ CallDeq ↦ true | _ ↦ false ]
 
--- the first call gives the first value, the second the second, and so on; a call for which no value is left isn't answered
+-- the first call gives the first value, the second the second, and so on; a call without a value isn't answered
 abbrev pub paired : List Event → List ℕ → List Answer
 paired (call ∷ calls) (v ∷ values) = record { call = call; what = RetDeq v } ∷ paired calls values
 paired _ _ = []
@@ -72,23 +72,24 @@ answers_to initial events =
 abbrev pub is_answered : List Answer → Event → Bool
 is_answered answers e = list_any (λ a. nat_eq a.call.ticket e.ticket) answers
 
--- a pending call without an answer is left out
+-- a pending call without an answer is removed
 abbrev pub is_left_out : List Event → List Answer → Event → Bool
 is_left_out events answers e = is_pending events e && not (is_answered answers e)
 
--- a ticket above all
+-- a ticket above all tickets
 abbrev pub next_ticket : List Event → ℕ
 next_ticket events = option_map_or (λ last. last.ticket + 1) (last_or None events) 0
 
--- the returns of answered calls, one after another from this ticket on
+-- the returns of answered calls, one ticket after another from this one on
 abbrev pub returns_from : ℕ → List Answer → List Event
 returns_from ticket [] = []
 returns_from ticket (a ∷ answers) = record { ticket = ticket; thread = a.call.thread; what = a.what } ∷ returns_from (ticket + 1) answers
 
--- the events without the pending calls that have no answer, and then the returns of the others
+-- the events without the pending calls that aren't answered, and then the returns of the others
 abbrev pub completed_by : List Event → List Answer → List Event
 completed_by events answers = filter (λ e. not (is_left_out events answers e)) events ++ returns_from (next_ticket events) answers
 
--- the completion: dequeues give, in the order of their calls, the values that are left, in the order in which these came in
+-- the completion: pending dequeues give, in the order of their calls, the values that are left, in the order in which
+-- these came in
 abbrev pub completed : List ℕ → List Event → List Event
 completed initial events = completed_by events (answers_to initial events)

@@ -1,4 +1,4 @@
--- Why a history has no completion here.
+-- The reasons why a history isn't completed.
 use Rattle.std.specs.Prelude.{◌≢◌, ℕ, ◌+◌, ◌<◌, ◌⊎◌, List, length}
 use Rattle.event_records.specs.declared.event.Event.{Event}
 use Rattle.event_records.specs.declared.limits.TheConstants.{MAX_EVENTS, MAX_TICKET}
@@ -18,7 +18,8 @@ IsBeyondLimits initial events = (MAX_EVENTS < length (completed initial events))
 abbrev pub MayBePending : List ℕ → List Event → Type 0
 MayBePending initial events = IsCompleteFrom initial events ⊎ ((ticket : ℕ) × IsFirstFault initial events (history.Pending ticket))
 
--- the first fault of the initial values and events, which isn't that a call is pending; or a completion beyond the limits
+-- the first fault of the initial values and events, unless it is that a call is pending; or a completion beyond the
+-- limits
 abbrev pub IsCompletionFault : List ℕ → List Event → CompletionFault → Type 0
 IsCompletionFault initial events (History fault) = IsFirstFault initial events fault × ((ticket : ℕ) → fault ≢ history.Pending ticket)
 IsCompletionFault initial events Limit = MayBePending initial events × IsBeyondLimits initial events

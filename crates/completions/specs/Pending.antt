@@ -10,13 +10,14 @@ use Rattle.history_merge.specs.Initial.{IsCompleteFrom}
 use Rattle.history_merge.specs.Legal.{IsLinearizable}
 use Rattle.history_merge.specs.Operations.{operations_of}
 
--- a call, a return of its kind, and so on, to a return or to a call that is pending
+-- a call, a return of its kind, and so on, up to a return or to a call that is pending
 abbrev pub TakesTurnsSoFar : List Event → Type 0
 TakesTurnsSoFar [] = ⊤
 TakesTurnsSoFar (call ∷ []) = IsTrue (is_call call.what)
 TakesTurnsSoFar (call ∷ answer ∷ rest) = IsTrue (answers call.what answer.what) × TakesTurnsSoFar rest
 
--- a history of distinct values from these initial ones, as a complete one, but that the last call of a thread may be pending
+-- a history of distinct values from these initial ones, like a complete one, except that the last call of a thread
+-- may be pending
 pub record IsHistoryFrom (initial : List ℕ) (events : List Event) : Type 0 where
   pub tickets_rise : TicketsRise events
   pub tickets_in_range : All (λ e. e.ticket ≤ MAX_TICKET) events
@@ -28,7 +29,8 @@ pub record IsHistoryFrom (initial : List ℕ) (events : List Event) : Type 0 whe
 abbrev pub IsPendingCall : List Event → Event → Type 0
 IsPendingCall events e = pending_call e.thread events ≡ Some e
 
--- a completion: some pending calls are left out, and each other one has a return after the last event, with any answer that fits
+-- a completion: some pending calls are removed, and each other one has a return after the last event, with any answer
+-- of its kind
 pub record IsCompletion (initial : List ℕ) (events full : List Event) : Type 0 where
   pub leaves_out : Event → Bool
   pub returns : List Event

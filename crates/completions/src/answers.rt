@@ -9,14 +9,14 @@ use crate::left::left_values;
 use event_records::{Event, What};
 use std::alloc::{AllocError, Global};
 
-/// A pending call with its answer.
+/// A pending call, and its answer.
 #[derive(Clone, Copy, Debug)]
 pub struct Answer {
     pub call: Event,
     pub what: What,
 }
 
-/// Returns the answer to a pending enqueue if a dequeue gave its value.
+/// Returns the answer to a pending enqueue whose value a dequeue gave; none for any other call.
 fn enqueue_answer(call: Event, given: &[u64]) -> Option<Answer>
     ensures { (events : List Event) → AreGiven events given.now → result ≡ enqueue_answer events call }
 {
@@ -61,7 +61,7 @@ pub(crate) fn dequeue_calls(alloc: Global, calls: &[Event]) -> Result<Vec<Event>
     Ok(dequeues)
 }
 
-/// Adds the answers of these dequeues, which give these values in their order, as far as there are values.
+/// Adds the answers to these dequeues, which give these values in their order, as long as there are values.
 pub(crate) fn push_dequeue_answers(
     answers: &mut Vec<Answer>,
     calls: &[Event],
@@ -79,7 +79,7 @@ pub(crate) fn push_dequeue_answers(
     Ok(())
 }
 
-/// Whether one of these answers is to this call.
+/// Returns whether one of these answers is to this call.
 pub(crate) fn is_answered(answers: &[Answer], call: Event) -> bool
     ensures { result ≡ is_answered answers.now call }
 {
@@ -88,8 +88,8 @@ pub(crate) fn is_answered(answers: &[Answer], call: Event) -> bool
         .any(|answer| answer.call.ticket == call.ticket)
 }
 
-/// Returns the answers to the pending calls, which are these, from the initial values, the values that dequeues gave,
-/// sorted, and those of successful enqueues.
+/// Returns the answers to the pending calls. `values` are the initial values, `given` the values that dequeues gave,
+/// sorted, and `taken` those of successful enqueues.
 pub(crate) fn answers_to(
     alloc: Global,
     values: &[u64],

@@ -21,7 +21,7 @@ use history_merge::{HistoryBuilder, HistoryFault};
 use packed_events::PackedEvent;
 use std::alloc::{AllocError, Global};
 
-/// Whether the event is a pending call without an answer.
+/// Returns whether the event is a pending call without an answer.
 #[inline(always)]
 fn is_left_out(last: &[Option<Event>], answers: &[Answer], event: Event) -> bool
     requires thread { event.thread ≤ MAX_THREAD }
@@ -31,7 +31,7 @@ fn is_left_out(last: &[Option<Event>], answers: &[Answer], event: Event) -> bool
     is_pending(last, event) && !is_answered(answers, event)
 }
 
-/// Leaves out the pending calls that have no answer, of which none stands before this place.
+/// Removes the pending calls without an answer. No call before place `from` is pending.
 fn leave_out(events: &mut Vec<PackedEvent>, last: &[Option<Event>], answers: &[Answer], from: usize)
     requires threads { All (λ e. e.thread ≤ MAX_THREAD) events.old.items }
     requires last { AreLast events.old.items last.now }
@@ -52,7 +52,7 @@ fn leave_out(events: &mut Vec<PackedEvent>, last: &[Option<Event>], answers: &[A
     events.truncate(kept);
 }
 
-/// Adds the returns of answered calls, one after another from this ticket on.
+/// Adds the returns of answered calls, one ticket after another from `ticket` on.
 fn push_returns(
     full: &mut Vec<PackedEvent>,
     answers: &[Answer],
@@ -73,7 +73,8 @@ fn push_returns(
     Ok(())
 }
 
-/// Returns the ticket of the first return that a completion of these events adds: one above the last, 0 without events.
+/// Returns the ticket of the first return that a completion of these events adds: one above the last ticket, or 0
+/// without events.
 pub fn next_ticket(events: &[PackedEvent]) -> u64
     requires { All (λ e. e.ticket ≤ MAX_TICKET) events.now }
     ensures next { result ≡ next_ticket events.now }
@@ -96,7 +97,7 @@ fn allow_pending(fault: HistoryFault) -> Result<(), CompletionFault>
     }
 }
 
-/// Returns these values.
+/// Copies these values.
 fn copied(alloc: Global, values: &[u64]) -> Result<Vec<u64>, AllocError>
     ensures { IfOk result (λ copy. copy.items ≡ values.now) }
 {
@@ -115,7 +116,7 @@ fn check_history(builder: HistoryBuilder) -> Result<(), CompletionFault>
     }
 }
 
-/// Walks over the events, and judges them as [`history_merge::history_from`] does, but for calls that are pending.
+/// Walks over the events, and judges them as [`history_merge::history_from`] does, except that calls may be pending.
 fn walk_history(
     alloc: Global,
     initial: &[u64],
@@ -143,11 +144,11 @@ fn walk_history(
 #[derive(Drop)]
 pub struct Completion {
     pub events: Vec<PackedEvent>,
-    /// How many calls were pending.
+    /// The number of calls that were pending.
     pub pending: usize,
 }
 
-/// Completes a history over which this walk has gone.
+/// Completes a history, given the result of a walk over it.
 fn complete_history(
     alloc: Global,
     initial: &[u64],
@@ -192,17 +193,17 @@ fn complete_history(
     })
 }
 
-/// Completes a history whose calls may be pending, of a queue that holds these values first (Herlihy and Wing 1990,
-/// section 2.2): the completion has a linearization if and only if some completion has one.
+/// Completes a history in which calls may be pending, of a queue that holds these initial values (Herlihy and Wing
+/// 1990, section 2.2). The completion has a linearization if and only if some completion has one.
 ///
-/// A pending enqueue returns as taken if a dequeue gave its value; otherwise its call is left out. The pending dequeues
-/// give, in the order of their calls, the values that no dequeue gave: the initial ones first, in their order, and then
-/// those of successful enqueues by their returns. A dequeue for which no value remains is left out. These returns come
-/// after the last event, those of enqueues first. A complete history comes back as it is.
+/// A pending enqueue returns as successful if a dequeue gave its value; otherwise its call is removed. The pending
+/// dequeues give, in the order of their calls, the values that no dequeue gave: the initial ones first, in their
+/// order, and then those of successful enqueues by their returns. A dequeue for which no value remains is removed.
+/// The added returns come after the last event, those of enqueues first. A complete history is returned unchanged.
 ///
-/// `History` has the first fault as [`history_merge::history_from`] names it, but for `Pending`. `Limit` comes if the
-/// completion has more than `MAX_EVENTS` events or a ticket above `MAX_TICKET`. Time O(n log n) for n events and initial
-/// values, and memory in proportion beside that of the events, which are completed in place.
+/// `History` has the first fault as [`history_merge::history_from`] names it, unless that is `Pending`. `Limit` comes
+/// if the completion has more than `MAX_EVENTS` events or a ticket above `MAX_TICKET`. Takes O(n log n) time for n
+/// events and initial values, and memory in proportion beside that of the events, which are completed in place.
 pub fn complete(
     alloc: Global,
     initial: &[u64],

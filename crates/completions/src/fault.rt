@@ -6,10 +6,10 @@ use history_merge::HistoryFault;
 use std::alloc::AllocError;
 use thiserror::Error;
 
-/// Why a history has no completion here.
+/// The reason why a history isn't completed.
 #[derive(Clone, Copy, Debug, PartialEq, Eq, Error)]
 pub enum CompletionFault {
-    /// The first fault of the initial values and the events, which isn't `Pending`; or memory ran out.
+    /// The first fault of the initial values and the events, unless it is `Pending`; or memory ran out.
     #[error("{0}")]
     History(HistoryFault),
     /// The completion has more events than a history may have, or a ticket above the greatest.

@@ -1,4 +1,4 @@
-//! The last event of each thread, on a walk over the events.
+//! The last event of each thread, in a walk over the events.
 ghost use Rattle.std.specs.Prelude.{◌≡◌, ◌≤◌, ◌<◌, ◌++◌, ◌∷◌, List, [], length};
 ghost use Rattle.event_records.specs.Turns.{is_call};
 ghost use Rattle.event_records.specs.declared.event.Event.{Event};
@@ -9,7 +9,7 @@ ghost use Rattle.completions.specs.Inner.Walk.{AreLast};
 
 use event_records::{Event, MAX_THREADS, What};
 
-/// Whether this is a call.
+/// Returns whether this is a call.
 pub(crate) fn is_call(what: What) -> bool
     ensures { result ≡ is_call what }
 {

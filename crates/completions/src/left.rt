@@ -13,7 +13,8 @@ fn push_left(left: &mut Vec<u64>, given: &[u64], values: &[u64]) -> Result<(), A
     ensures { OnOk result ((events : List Event) → AreGiven events given.now
         → left.new.items ≡ left.old.items ++ filter (λ v. not (is_given events v)) values.now) }
 {
-    // The values of a thread have its name in most histories, and rise, so each stands behind its last one.
+    // In most histories the values of a thread have its name and rise, so each is just after the previous one of its
+    // thread.
     let mut near = [0; MAX_THREADS];
     for value in values {
         let name = *value / NAMES_OF_A_THREAD % MAX_THREADS as u64;
@@ -24,7 +25,7 @@ fn push_left(left: &mut Vec<u64>, given: &[u64], values: &[u64]) -> Result<(), A
     Ok(())
 }
 
-/// Returns those of the initial values and of the values of successful enqueues that no dequeue gave, in this order.
+/// Returns the values that no dequeue gave: the initial ones, and then those of successful enqueues.
 pub(crate) fn left_values(
     alloc: Global,
     values: &[u64],

@@ -11,7 +11,7 @@ use event_records::Event;
 use packed_events::PackedEvent;
 use std::alloc::{AllocError, Global};
 
-/// Whether the event is a pending call: the last event of its thread, and a call.
+/// Returns whether the event is a pending call: the last event of its thread, and a call.
 #[inline(always)]
 pub(crate) fn is_pending(last: &[Option<Event>], event: Event) -> bool
     requires thread { event.thread ≤ MAX_THREAD }
@@ -41,7 +41,7 @@ fn least_pending(last: &[Option<Event>]) -> u64
     least
 }
 
-/// Returns a place before which no call is pending, by a look at the events from there on alone.
+/// Returns a place before which no call is pending. Looks only at the events from there on.
 pub(crate) fn first_pending(events: &[PackedEvent], last: &[Option<Event>]) -> usize
     requires last { AreLast events.now last.now }
     ensures before { (initial : List ℕ) → IsHistoryFrom initial events.now → All (λ e. is_pending events.now e ≡ false) (take result events.now) }
@@ -55,7 +55,7 @@ pub(crate) fn first_pending(events: &[PackedEvent], last: &[Option<Event>]) -> u
     from
 }
 
-/// Returns the pending calls, in their order, of which none stands before this place.
+/// Returns the pending calls, in their order. No call before place `from` is pending.
 pub(crate) fn pending_calls(
     alloc: Global,
     events: &[PackedEvent],

@@ -8,7 +8,7 @@ use crate::last::{no_events, note, taken_value};
 use event_records::{Event, MAX_THREAD, MAX_THREADS, What};
 use std::alloc::{AllocError, Global};
 
-/// What a completion is made from, noted event by event.
+/// The state of a walk: all that a completion is made from.
 #[derive(Drop)]
 pub(crate) struct Walk {
     /// The last event of each thread.

@@ -47,7 +47,7 @@ module _ (emptiness : Emptiness) (whole : Contents) where
   abbrev HasOne : LocalOrder → Type 0
   HasOne x = IsDecidedOf whole (part x.producer) (Yes x.order)
 
-  -- the orders one after another, as operations
+  -- the operations of the orders, one after another
   abbrev lines_of : List LocalOrder → List Operation
   lines_of orders = operations_at whole.operations (flat_map (λ (x : LocalOrder). x.order) orders)
 
@@ -86,7 +86,7 @@ refuted_is_refuted_in_the_whole whole kind lines = (
   λ shown. violations_are_of_the_whole (λ value. true) (λ call. false) whole kind lines shown,
 )
 
--- ---- what a claim decides
+-- ---- claims that decide
 
 -- each of the contents has a linearization
 each_in_turn : (parts : List Contents) (lines : List Operation) → AreOrdersInTurn parts lines → (part : Contents) → Contains parts part → AreLinearizable part
@@ -121,7 +121,7 @@ module _ (history : HistoryView) (complete : IsCompleteFrom history.initial hist
         let none = true_claim_decides own.initial own.events (claimed.No kind lines) own_complete own_few there in
         subst (λ c. ¬ (AreLinearizable c)) same_contents none
 
-    -- two verdicts on a selection claim the same
+    -- two verdicts on a selection have the same claim
     one_claim : (x y : Verdict) → IsDecidedOf contents (select values empties contents) x → IsDecidedOf contents (select values empties contents) y
         → claim_on contents x ≡ claim_on contents y
     one_claim x y of_x of_y =
@@ -180,7 +180,7 @@ module _ (history : HistoryView) (complete : IsCompleteFrom history.initial hist
         lines_more emptiness contents x xs ∙ ap₂ (λ (a b : List Operation). a ++ b) here (same_lines xs ys later (All-tail Decided x xs all_x) (All-tail Decided y ys all_y))
         ∙ sym (lines_more emptiness contents y ys)
 
--- ---- the first that is refuted
+-- ---- the first selection without a linearization
 
 earlier_clash : (emptiness : Emptiness) (whole : Contents) (p q : Producer) (x y : Violation) → IsFirstRefuted emptiness whole p x
     → IsFirstRefuted emptiness whole q y → ¬ (ComesBefore p q)

@@ -1,4 +1,4 @@
--- One producer's selection after another is compared with a claim.
+-- The selections of producers are compared with a claim, one after another.
 use Rattle.std.proofs.Common.{◌≡◌, ◌↔◌, ℕ, suc, ◌+◌, ◌<◌, ◌≤◌, ◌++◌, inl, inr, Bool, true, false, cond, List, []}
 use Rattle.std.proofs.Common.{◌∷◌, drop, length, map, take, refl, ap, sym, subst, ◌∙◌, arith}
 use Rattle.std.specs.Prelude.{◌==◌, filter, IsTrue}
@@ -26,7 +26,7 @@ use Rattle.conditions.proofs.Showing.{violations_are_of_the_whole}
 
 -- ---- lists
 
--- a list is cut in one way into a prefix of this length and the rest
+-- a list is split in only one way into a prefix of this length and the rest
 cut_front : {X : Type 0} (n : ℕ) (xs front back : List X) → xs ≡ front ++ back → length front ≡ n → front ≡ take n xs
 cut_front n xs front back is long =
     sym (ap (take n) is ∙ take-append-le n front back (omega (arith, long)) ∙ take_all n front (omega (arith, long)))
@@ -66,7 +66,7 @@ module _ (emptiness : Emptiness) (whole : Contents) where
   abbrev part : Producer → Contents
   part p = selection_of emptiness p whole
 
-  -- those of the producers from this rank on
+  -- the selections of the producers from this rank on
   abbrev pub left_from : ℕ → List Contents
   left_from k = map part (filter (has_values whole) (drop k all_producers))
 
@@ -87,7 +87,7 @@ module _ (emptiness : Emptiness) (whole : Contents) where
   pub none_left : (k : ℕ) → PRODUCERS ≤ k → left_from k ≡ []
   none_left k past = ap (λ ps. map part (filter (has_values whole) ps)) (drop_all k all_producers (omega (arith, past, long_enough)))
 
-  -- what is known while the lines of one selection after another are looked at
+  -- the state while the lines of the selections are compared, one after another
   abbrev pub IsLeft : ℕ → List Operation → List Operation → Type 0
   IsLeft k rest lines = AreOrdersInTurn (left_from k) rest ↔ AreOrdersInTurn (left_from 0) lines
 
@@ -123,7 +123,7 @@ module _ (emptiness : Emptiness) (whole : Contents) where
 
 -- ---- a `NO`
 
--- it is evidence in no selection of the producers before this rank
+-- the claim is evidence in no selection of the producers before this rank
 abbrev pub IsOfNone : Emptiness → Contents → ℕ → Claimed → Type 0
 IsOfNone emptiness whole rank claimed =
     (k : ℕ) → k < rank → has_values whole (ranked k) ≡ true → ¬ (IsTrueOf (selection_of emptiness (ranked k) whole) claimed)

@@ -1,4 +1,4 @@
--- One producer's selection after another is judged, and then all are.
+-- The selections of producers are judged, one after another, and then all are.
 use Rattle.std.proofs.Common.{◌≡◌, ◌≢◌, ℕ, zero, suc, ◌+◌, ◌<◌, ◌≤◌, ◌++◌, inl, inr, Bool, true, false, cond, List}
 use Rattle.std.proofs.Common.{[], ◌∷◌, length, get_or, map, take, Option, Some, None, refl, ap, ap₂, sym, subst, ◌∙◌}
 use Rattle.std.proofs.Common.{arith}
@@ -49,7 +49,7 @@ abbrev pub is_nobodys : Contents → ℕ → Bool
 is_nobodys whole v = option_map_or (λ (q : Producer). false) (producer_of whole v) true
 
 module _ (whole : Contents) (t : ℕ) (none : has_values whole (Thread t) ≡ false) where
-  -- no value is this thread's
+  -- no value has this thread as its producer
   not_its : (v : ℕ) → producer_of whole v ≢ Some (Thread t)
   not_its v is = elim (cases_Bool (is_initial whole.initial v)) [
     | inl initial ↦ let clash : Some Initial ≡ Some (Thread t) = rw initial at is in cc
@@ -77,7 +77,7 @@ module _ (whole : Contents) (t : ℕ) (none : has_values whole (Thread t) ≡ fa
     | inr other ↦ other
   ]
 
-  -- what counts for it counts for the initial values' producer, and is nobody's
+  -- the values that count for this thread count for the initial values' producer, and have no producer
   counts_as_nobodys : (v : ℕ) → counts_for whole (Thread t) v ≡ cond (counts_for whole Initial v) (is_nobodys whole v) false
   counts_as_nobodys v = counts_by v (producer_of whole v) refl
 
@@ -87,7 +87,7 @@ module _ (whole : Contents) (t : ℕ) (none : has_values whole (Thread t) ≡ fa
   selects_by Weak None = refl
   selects_by emptiness (Some v) = counts_as_nobodys v
 
-  -- so its selection is one of theirs
+  -- so its selection is a selection of that one
   pub selection_within : (emptiness : Emptiness)
       → select (is_nobodys whole) (λ call. judges_empties emptiness) (selection_of emptiness Initial whole) ≡ selection_of emptiness (Thread t) whole
   selection_within emptiness =
@@ -108,7 +108,7 @@ rank_stands (suc t) below = thread_stands 0 64 t (omega arith) ∙ ap Thread (om
     thread_stands a (suc n) zero below = ap Thread (omega arith)
     thread_stands a (suc n) (suc t) below = thread_stands (a + 1) n t (omega arith) ∙ ap Thread (omega arith)
 
--- what is marked as used
+-- the marks of producers in use
 pub used_is : (whole : Contents) (used : List Bool) (k : ℕ) → AreMarked whole.operations used → k < PRODUCERS → get_or used k false ≡ has_values whole (ranked k)
 used_is whole used zero marked below = marked.initial
 used_is whole used (suc t) marked below = marked.threads t (omega arith)
@@ -132,7 +132,7 @@ module _ (history : HistoryView) (complete : IsCompleteFrom history.initial hist
   first_contents : contents_of first_selection ≡ selection_of emptiness Initial whole
   first_contents = λ i. record { initial = first_selection.initial; operations = first_operations i }
 
-  -- it is linearizable if that of the initial values is
+  -- its selection is linearizable if that of the initial values is
   pub idle_is_linearizable : (t : ℕ) → has_values whole (Thread t) ≡ false → AreLinearizable (selection_of emptiness Initial whole)
       → AreLinearizable (selection_of emptiness (Thread t) whole)
   idle_is_linearizable t none linearizable =
@@ -239,7 +239,7 @@ module _ (history : HistoryView) (complete : IsCompleteFrom history.initial hist
   pub judged_first : AreJudged emptiness whole 0 []
   judged_first = record { linearizable = λ k below. absurd (omega arith); producers = refl; decided = All-nil HasOne }
 
--- ---- places
+-- ---- places of selections
 
 -- the places of a producer's selection
 pub places_of_rank : (emptiness : Emptiness) (whole : Contents) (used : List Bool) (buckets : List (List ℕ)) (rank : ℕ) (p : Producer) (item listed : List ℕ)
@@ -250,7 +250,7 @@ places_of_rank emptiness whole used buckets rank p item listed shared below in_u
     (subst (λ ps. ArePlacesOf whole.operations ps (selection_of emptiness (ranked rank) whole).operations)
     (sym (is_listed ∙ at ∙ get_or_default buckets rank item [] (omega (arith, shared.one_each)))) (shared.places rank below in_use))
 
--- the initial values of a producer's selection stand where they stand in the whole
+-- the initial values of a producer's selection have the places that they have in the whole
 pub initial_places : (whole : Contents) (p : Producer) (i : ℕ) → i < length (filter (counts_for whole p) whole.initial)
     → slice_get whole.initial i ≡ slice_get (filter (counts_for whole p) whole.initial) i
 initial_places whole Initial i below = ap (λ vs. slice_get vs i) (sym (initial_selected whole Initial))

@@ -1,4 +1,4 @@
--- Selections of selections: which conditions are weaker than which, and what is minimal for one.
+-- Selections of selections: which conditions are weaker than others, and minimal histories for them.
 use Rattle.std.proofs.Common.{◌≡◌, ◌≢◌, ℕ, ◌≤◌, Bool, true, false, cond, List, [], ◌∷◌, length}
 use Rattle.std.proofs.Common.{Option, Some, None, refl, ap, sym, subst, ◌∙◌, arith}
 use Rattle.std.specs.Prelude.{filter, find, nat_eq, option_map, if◌then◌else◌}
@@ -44,7 +44,7 @@ module _ (history : HistoryView) (complete : IsCompleteFrom history.initial hist
   pub selected_contents : contents_of selected ≡ select values empties (contents_of history)
   selected_contents = λ i. record { initial = selected.initial; operations = selected_operations i }
 
-  -- it is linearizable too
+  -- a selection of a linearizable selection is linearizable
   pub stays_linearizable : (more others : ℕ → Bool) → AreLinearizable (select values empties (contents_of history))
       → AreLinearizable (select more others (select values empties (contents_of history)))
   stays_linearizable more others linearizable =
@@ -55,7 +55,7 @@ module _ (history : HistoryView) (complete : IsCompleteFrom history.initial hist
 
 -- ---- with weak emptiness
 
--- without empty dequeues a strict selection is a weak one
+-- a strict selection without empty dequeues is a weak one
 weak_by_value : (whole : Contents) (p : Producer) (w : Option ℕ) → option_map_or (counts_for whole p) w false
     ≡ cond (option_map_or (counts_for whole p) w true) (option_map_or (λ v. true) w false) false
 weak_by_value whole p None = refl
@@ -93,9 +93,9 @@ both_are_weakest history complete few =
           (stays_linearizable history complete few (λ v. true) (λ call. false) (counts_for whole p) (λ call. false) weak),
     )
 
--- ---- what is minimal
+-- ---- minimal histories
 
--- what a filter keeps is found among what it keeps as among all
+-- an element that passes one test is found among those that pass a weaker one as among all
 found_alike : {X : Type 0} (p q : X → Bool) (xs : List X) → ((x : X) → p x ≡ true → q x ≡ true) → find p (filter q xs) ≡ find p xs
 found_alike p q [] keeps = refl
 found_alike {X} p q (x ∷ xs) keeps = pick (p x) (q x) refl refl (keeps x) (found_alike p q xs keeps)
@@ -144,7 +144,7 @@ counts_still emptiness p whole values empties v counts selected =
     ∙ producer_kept (counts_for whole p) (λ call. judges_empties emptiness) whole v counts)
     ∙ counts
 
--- so its selection there is all of it
+-- so its selection from there is all of it
 own_selection : (emptiness : Emptiness) (p : Producer) (whole : Contents) (values empties : ℕ → Bool)
     → selection_of emptiness p (select values empties (selection_of emptiness p whole)) ≡ select values empties (selection_of emptiness p whole)
 own_selection emptiness p whole values empties = λ i. record { initial = initial i; operations = operations i }
@@ -183,7 +183,7 @@ own_selection emptiness p whole values empties = λ i. record { initial = initia
 
 -- ---- the laws
 
--- selections of a history's selections that are linearizable are so
+-- linearizable selections of a history's selections stay linearizable
 others_stay : (small : HistoryView) → IsCompleteFrom small.initial small.events → length small.initial ≤ MAX_INITIAL → IsMinimal (contents_of small)
     → (selected : Contents) → IsValueClosed (contents_of small) selected → selected ≢ contents_of small → (more others : ℕ → Bool)
     → AreLinearizable (select more others selected)
@@ -201,7 +201,7 @@ stays_locally_minimal emptiness p whole small complete few closed minimal = (
   λ selected part other q. others_stay small complete few minimal selected part other (counts_for selected q) (λ call. judges_empties emptiness),
 )
 
--- without empty dequeues nothing is left out
+-- a history without empty dequeues loses nothing by leaving them out
 none_left : (whole : Contents) (values empties : ℕ → Bool)
     → without_empties (select values empties (without_empties whole)) ≡ select values empties (without_empties whole)
 none_left whole values empties =

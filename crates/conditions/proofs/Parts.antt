@@ -23,7 +23,7 @@ use Rattle.conditions.specs.declared.part.Part.{Part}
 
 -- ---- walks over places
 
--- an operation, to stand past the end of a list
+-- an operation for places past the end of a list
 abbrev pub past_end : Operation
 past_end = record { call = 0; ret = 0; thread = 0; kind = Empty }
 
@@ -33,7 +33,7 @@ module _ (test : Operation → Bool) (operations : List Operation) (i : ℕ) (o 
       ap (filter test) (one_more operations i o (slice_get_within operations i o at) (sym (get_or_from_slice_get operations i o o at)))
       ∙ filter-append test (take i operations) (o ∷ [])
 
-  -- the place of one operation more that passes
+  -- the place of one more operation that passes
   pub places_more : (before now : List ℕ) → test o ≡ true → now ≡ before ++ i ∷ [] → ArePlacesOf operations before (filter test (take i operations))
       → ArePlacesOf operations now (filter test (take (i + 1) operations))
   places_more before now passes is are =
@@ -42,14 +42,14 @@ module _ (test : Operation → Bool) (operations : List Operation) (i : ℕ) (o 
       ∙ sym (map-append (λ x. Some x) (filter test (take i operations)) (o ∷ []))
       ∙ ap (map (λ x. Some x)) (sym (one_further ∙ ap (λ (b : Bool). filter test (take i operations) ++ cond b (o ∷ []) []) passes))
 
-  -- one more that doesn't pass
+  -- one more operation that doesn't pass
   pub places_same : (before : List ℕ) → test o ≡ false → ArePlacesOf operations before (filter test (take i operations))
       → ArePlacesOf operations before (filter test (take (i + 1) operations))
   places_same before fails are =
       are ∙ ap (map (λ x. Some x)) (sym (one_further ∙ ap (λ (b : Bool). filter test (take i operations) ++ cond b (o ∷ []) []) fails
       ∙ append-nil (filter test (take i operations))))
 
--- ---- the part that a selection is
+-- ---- the part of a selection
 
 module _ (whole : HistoryView) (complete : IsCompleteFrom whole.initial whole.events) (values empties : ℕ → Bool) (initial places : List ℕ)
     (selected : AreSelected (contents_of whole) values empties initial places) where
@@ -71,7 +71,7 @@ module _ (whole : HistoryView) (complete : IsCompleteFrom whole.initial whole.ev
   pub complete_selected : IsCompleteFrom initial events_selected
   complete_selected = subst (λ vs. IsCompleteFrom vs events_selected) (sym selected.initial_values) is_complete
 
-  -- its operations stand at the places
+  -- its operations are at these places
   pub stands_there : length whole.events ≤ MAX_EVENTS → IsPartAt whole initial places events_selected
   stands_there few = record {
     complete = complete_selected;

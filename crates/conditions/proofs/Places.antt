@@ -73,7 +73,7 @@ module _ (whole selected : Contents) (places : List ℕ) (at : ArePlacesOf whole
       subst (IsPlaceWithin whole.initial whole.operations) from.2
       (within_moved from.0 (All-contains (IsPlaceWithin selected.initial selected.operations) listed from.0 each from.1))
 
-  -- ---- what a moved verdict names
+  -- ---- the lines of a moved verdict
 
   maybe_moved : (p : Option ℕ) → maybe_place (option_map (moved_place places) p) ≡ map moved (maybe_place p)
   maybe_moved None = refl
@@ -174,7 +174,7 @@ module _ (whole : Contents) (values empties : ℕ → Bool) (places : List ℕ)
           places = within;
         }
 
--- the same of a part of a history
+-- a verdict on a part of a history, by the places of the whole
 pub decided_at : (whole : HistoryView) (values empties : ℕ → Bool) (part : Part) (verdict : Verdict) (places : List ℕ) (moved : Verdict)
     → IsPart whole (select values empties (contents_of whole)) part
     → ArePlacesOf (operations_of whole.events) places (select values empties (contents_of whole)).operations

@@ -1,4 +1,4 @@
--- Who produces a value, as it is looked up, and what belongs to a producer's selection.
+-- The producer of a value, as it is found, and the operations of a producer's selection.
 use Rattle.std.proofs.Common.{◌≡◌, ◌≢◌, ℕ, zero, ◌+◌, ◌<◌, ◌≤◌, ◌⊎◌, inl, inr, Bool, true, false, cond, List, [], ◌∷◌, length, get_or, map}
 use Rattle.std.proofs.Common.{Option, Some, None, Result, Ok, Err, refl, ap, sym, subst, ◌∙◌, arith}
 use Rattle.std.specs.Prelude.{Contains, filter, filter_map, find, IsPermutation, MatchResult, nat_eq, nat_lt, option_map, slice_get}
@@ -67,7 +67,7 @@ no_producer whole xs v are none = by_case (producer_of whole v) refl
         let found = are.all v p is in
         absurd (none found.1.0 found.0 found.1.1 (ap (λ (x : Produced). x.value) found.1.2 ∙ found.2))
 
--- ---- the producers of the values that are enqueued
+-- ---- the producers of the enqueued values
 
 pub value_told : (o : Option ℕ) (v : ℕ) → option_map_or (λ w. nat_eq w v) o false ≡ true → o ≡ Some v
 value_told None v is = cc
@@ -76,7 +76,7 @@ value_told (Some w) v is = ap (λ x. Some x) (eqb-true w v is)
 value_tells : (o : Option ℕ) (v : ℕ) → o ≡ Some v → option_map_or (λ w. nat_eq w v) o false ≡ true
 value_tells o v is = rw is (eq-eqb v v refl)
 
--- what passes is found, or another that passes
+-- if an element passes, some element is found
 pub found_some : {X : Type 0} (p : X → Bool) (xs : List X) (x : X) → Contains xs x → p x ≡ true
     → (y : X) × (find p xs ≡ Some y) × Contains xs y × (p y ≡ true)
 found_some p [] x among is = absurd (not_in_none x among)
@@ -104,7 +104,7 @@ module _ (whole : Contents) (complete : AreComplete (timeline whole.initial whol
       Contains-append_right (initial_enqueues whole.initial) (map (later_by ORIGIN) whole.operations) (later_by ORIGIN x)
       (mapped_to (later_by ORIGIN) whole.operations x among)
 
-  -- an initial value stands at some place
+  -- an initial value has a place
   initial_place : (v : ℕ) → is_initial whole.initial v ≡ true → (j : ℕ) × (slice_get whole.initial j ≡ Some v)
   initial_place v is =
       let any = Any-from_list_any (λ w. nat_eq w v) whole.initial is in
@@ -181,7 +181,7 @@ module _ (whole : Contents) (complete : AreComplete (timeline whole.initial whol
         )
   ]
 
-  -- the values that are enqueued, by value, are those with a producer
+  -- the enqueued values, sorted by value, are those with a producer
   pub are_producers : (listed sorted : List Produced) → listed ≡ filter_map produced_by all → IsPermutation listed sorted
       → IsNonDecreasingBy (λ x. x.value) sorted → AreProducers whole sorted
   are_producers listed sorted is moved rises = record {
@@ -198,7 +198,7 @@ module _ (whole : Contents) (complete : AreComplete (timeline whole.initial whol
         (x, Contains-permutation listed sorted x moved (subst (λ xs. Contains xs x) (sym is) there), refl);
   }
 
--- ---- what belongs to a producer's selection
+-- ---- the operations of a producer's selection
 
 module _ (whole : Contents) (p : Producer) where
   goes_by_producer : (q : Option Producer) → goes_to p (share_of_value q) ≡ option_map_or (is_producer p) q true
@@ -231,7 +231,7 @@ counts_initial whole v p among =
     list_any_at (λ w. nat_eq w v) whole.initial among.0 v among.1 (eq-eqb (get_or whole.initial among.0 v) v among.2) in
     rw initial refl
 
--- what keeps each element keeps all
+-- a test that each element passes keeps all
 pub kept_each : {X : Type 0} (q : X → Bool) (xs : List X) → ((x : X) → Contains xs x → q x ≡ true) → filter q xs ≡ xs
 kept_each q [] each = refl
 kept_each q (x ∷ xs) each = rw (each x (zero, omega arith, refl)) (ap (λ ys. x ∷ ys) (kept_each q xs (λ y among. each y (one_deeper x xs y among))))
@@ -245,6 +245,6 @@ pub initial_selected : (whole : Contents) (p : Producer) → filter (counts_for 
 initial_selected whole Initial = kept_each (counts_for whole Initial) whole.initial (λ v among. counts_initial whole v Initial among)
 initial_selected whole (Thread t) = kept_none (counts_for whole (Thread t)) whole.initial (λ v among. counts_initial whole v (Thread t) among)
 
--- the same of an equal list
+-- equal lists have the same value at a place
 pub value_at : (xs ys : List Produced) (v i : ℕ) → xs ≡ ys → ((d : Produced) → (get_or xs i d).value ≡ v) → (d : Produced) → (get_or ys i d).value ≡ v
 value_at xs ys v i same at d = subst (λ (zs : List Produced). (get_or zs i d).value ≡ v) same (at d)

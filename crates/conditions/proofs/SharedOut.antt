@@ -28,7 +28,7 @@ none_marked (suc n) (suc t) = none_marked n t
 pub marks_begin : AreMarked [] (set (replicate 65 false) 0 true)
 marks_begin = record { one_each = refl; initial = refl; threads = λ t below. none_marked 64 t }
 
--- something stands at a place within a list
+-- there is an operation at each place of a list
 pub nothing_past : (operations : List Operation) (i : ℕ) → i < length operations → ¬ (slice_get operations i ≡ None)
 nothing_past operations i below none = let some = slice_get-get_or operations i past_end below in cc
 
@@ -37,7 +37,7 @@ pub marks_further : (operations : List Operation) (i : ℕ) (o : Operation) (use
 marks_further operations i o used at marked =
     subst (λ os. AreMarked os used) (sym (one_more operations i o (slice_get_within operations i o at) (sym (get_or_from_slice_get operations i o o at)))) marked
 
--- ---- one operation more is shared out
+-- ---- one more operation is shared out
 
 bucket_more : (test : Operation → Bool) (operations : List Operation) (i : ℕ) (o : Operation) (before now : List ℕ) → slice_get operations i ≡ Some o
     → now ≡ before ++ cond (test o) (i ∷ []) [] → ArePlacesOf operations before (filter test (take i operations))
@@ -63,7 +63,7 @@ shared_further operations i place o share used by_value emptiness before after a
       (has.1 whole are k below in_use),
 )
 
--- all are shared out
+-- all operations are shared out
 pub all_shared_out : (whole : Contents) (emptiness : Emptiness) (operations : List Operation) (count : ℕ) (used : List Bool) (by_value : List Produced)
     (buckets : List (List ℕ)) → whole.operations ≡ operations → length operations ≤ count → AreMarked operations used → AreProducers whole by_value
     → HasSharedOut operations count used by_value emptiness buckets → AreSharedOut emptiness whole used buckets

@@ -1,4 +1,4 @@
--- What lines show in a selection of a history they show in the whole.
+-- Lines that show a violation in a selection of a history show it in the whole.
 use Rattle.std.proofs.Common.{◌≡◌, ℕ, zero, suc, ◌<◌, inl, inr, Bool, true, false, cond, List, [], ◌∷◌, Some, refl, ap, sym, subst, ◌∙◌, arith}
 use Rattle.std.specs.Prelude.{Contains, filter, slice_get}
 use Rattle.history_merge.specs.declared.operation.Operation.{Operation}
@@ -17,7 +17,7 @@ use Rattle.claims.specs.Showing.{ShowsFresh, ShowsOrder, ShowsRepeat, ShowsWitne
 use Rattle.verdicts.proofs.NamedLines.{selects_as_value}
 use Rattle.conditions.specs.Laws.{ShowsIn, ViolationsAreOfTheWhole}
 
--- what stands before another among the kept elements stands before it among all
+-- elements that are kept come in the order that they have among all
 pub kept_in_order : {X : Type 0} (p : X → Bool) (xs : List X) (i j : ℕ) (x y : X) → i < j → slice_get (filter p xs) i ≡ Some x
     → slice_get (filter p xs) j ≡ Some y → (k : ℕ) × (l : ℕ) × (k < l) × (slice_get xs k ≡ Some x) × (slice_get xs l ≡ Some y)
 kept_in_order p [] i j x y less at_i at_j = cc
@@ -45,12 +45,12 @@ module _ (values empties : ℕ → Bool) (whole : Contents) where
   in_whole : (o : Operation) → Contains part.operations o → Contains whole.operations o
   in_whole o among = (passed_filter (selects values empties) whole.operations o among).0
 
-  -- what a line did in the selection it did in the whole
+  -- a line of this kind in the selection is one of this kind in the whole
   did_in_whole : (line : ClaimLine) (kind : OpKind) → LineDid part.initial part.operations line kind → LineDid whole.initial whole.operations line kind
   did_in_whole (Op o) kind did = (in_whole o did.0, did.1)
   did_in_whole (Initial v) kind did = ((passed_filter values whole.initial v did.0).0, did.1)
 
-  -- and its value is selected
+  -- the value of such a line is selected
   value_selected : (line : ClaimLine) (kind : OpKind) (v : ℕ) → value_of kind ≡ Some v → LineDid part.initial part.operations line kind → values v ≡ true
   value_selected (Op o) kind v is did =
       sym (selects_as_value values empties o v (ap value_of did.1 ∙ is)) ∙ (passed_filter (selects values empties) whole.operations o did.0).1
@@ -59,7 +59,7 @@ module _ (values empties : ℕ → Bool) (whole : Contents) where
       let one : w ≡ v = cc in
       subst (λ u. values u ≡ true) one (passed_filter values whole.initial w did.0).1
 
-  -- what nobody did in the selection, of a selected value, nobody did in the whole
+  -- if no line of the selection is of this kind, with a selected value, none of the whole is
   none_in_whole : (kind : OpKind) (v : ℕ) → value_of kind ≡ Some v → values v ≡ true → NoLineDid part.initial part.operations kind
       → NoLineDid whole.initial whole.operations kind
   none_in_whole kind v is selected none (Op o) did =

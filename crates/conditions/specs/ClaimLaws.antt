@@ -17,18 +17,18 @@ use Rattle.conditions.specs.Claims.{IsTrueLocalClaim, IsTrueOf, IsTrueWeakClaim,
 use Rattle.conditions.specs.Conditions.{IsLocallyLinearizable, IsWeaklyLinearizable, without_empties}
 use Rattle.conditions.specs.Decided.{IsDecidedOf, IsFirstRefuted, IsLocallyDecided}
 
--- what a verdict on these contents claims
+-- the claim of a verdict on these contents
 abbrev pub claim_on : Contents → Verdict → Claimed
 claim_on whole verdict = claim_of whole.initial whole.operations verdict
 
 -- ---- evidence
 
--- what a local verdict claims is evidence under local linearizability
+-- the claim of a local verdict is evidence under local linearizability
 abbrev pub LocalEvidenceIsTrueClaim : Type 0
 LocalEvidenceIsTrueClaim = (emptiness : Emptiness) (whole : Contents) (found : LocalVerdict) → IsLocallyDecided emptiness whole found
     → IsTrueLocalClaim emptiness whole (claim_on whole (verdict_of found))
 
--- what a verdict without the empty dequeues claims is evidence there
+-- the claim of a verdict without the empty dequeues is evidence without them
 abbrev pub WeakEvidenceIsTrueClaim : Type 0
 WeakEvidenceIsTrueClaim = (whole : Contents) (verdict : Verdict) → IsDecidedOf whole (without_empties whole) verdict
     → IsTrueWeakClaim whole (claim_on whole verdict)
@@ -39,39 +39,39 @@ RefutedIsRefutedInTheWhole = (whole : Contents) (kind : ViolationKind) (lines : 
     → ((emptiness : Emptiness) → IsTrueLocalClaim emptiness whole (No kind lines) → IsTrueOf whole (No kind lines))
     × (IsTrueWeakClaim whole (No kind lines) → IsTrueOf whole (No kind lines))
 
--- ---- what a claim decides
+-- ---- claims that decide
 
--- a `YES` says that the condition is met, and a `NO` that it isn't
+-- a `YES` asserts that the condition is met, and a `NO` that it isn't
 abbrev pub SaysOf : Type 0 → Claimed → Type 0
 SaysOf Condition (Yes lines) = Condition
 SaysOf Condition (No kind lines) = ¬ Condition
 
--- a claim that is evidence says rightly whether the history is locally linearizable
+-- a claim that is evidence asserts correctly whether the history is locally linearizable
 abbrev pub TrueLocalClaimDecides : Type 0
 TrueLocalClaimDecides = (emptiness : Emptiness) (history : HistoryView) (said : Claimed) → IsCompleteFrom history.initial history.events
     → length history.initial ≤ MAX_INITIAL → IsTrueLocalClaim emptiness (contents_of history) said
     → SaysOf (IsLocallyLinearizable emptiness (contents_of history)) said
 
--- the same of linearizability without empty dequeues
+-- a claim that is evidence without empty dequeues asserts correctly whether the history is linearizable without them
 abbrev pub TrueWeakClaimDecides : Type 0
 TrueWeakClaimDecides = (history : HistoryView) (said : Claimed) → IsCompleteFrom history.initial history.events → length history.initial ≤ MAX_INITIAL
     → IsTrueWeakClaim (contents_of history) said → SaysOf (IsWeaklyLinearizable (contents_of history)) said
 
 -- ---- one verdict
 
--- two local verdicts on a history claim the same
+-- two local verdicts on a history have the same claim
 abbrev pub LocalVerdictIsOne : Type 0
 LocalVerdictIsOne = (emptiness : Emptiness) (history : HistoryView) (x y : LocalVerdict) → IsCompleteFrom history.initial history.events
     → length history.initial ≤ MAX_INITIAL → IsLocallyDecided emptiness (contents_of history) x → IsLocallyDecided emptiness (contents_of history) y
     → claim_on (contents_of history) (verdict_of x) ≡ claim_on (contents_of history) (verdict_of y)
 
--- two verdicts without the empty dequeues claim the same
+-- two verdicts without the empty dequeues have the same claim
 abbrev pub WeakVerdictIsOne : Type 0
 WeakVerdictIsOne = (history : HistoryView) (x y : Verdict) → IsCompleteFrom history.initial history.events → length history.initial ≤ MAX_INITIAL
     → IsDecidedOf (contents_of history) (without_empties (contents_of history)) x
     → IsDecidedOf (contents_of history) (without_empties (contents_of history)) y → claim_on (contents_of history) x ≡ claim_on (contents_of history) y
 
--- one producer is the first whose selection has no linearization
+-- only one producer is the first whose selection has no linearization
 abbrev pub FirstRefutedIsOne : Type 0
 FirstRefutedIsOne = (emptiness : Emptiness) (whole : Contents) (p q : Producer) (x y : Violation) → IsFirstRefuted emptiness whole p x
     → IsFirstRefuted emptiness whole q y → p ≡ q

@@ -19,7 +19,7 @@ use Rattle.conditions.specs.declared.producer.Producer.TheVariants.{Initial, Thr
 abbrev pub without_empties : Contents → Contents
 without_empties whole = select (λ value. true) (λ call. false) whole
 
--- linearizable, whatever empty dequeues say
+-- linearizable, if empty dequeues guarantee nothing
 abbrev pub IsWeaklyLinearizable : Contents → Type 0
 IsWeaklyLinearizable whole = AreLinearizable (without_empties whole)
 
@@ -34,7 +34,7 @@ abbrev pub producer_of : Contents → ℕ → Option Producer
 producer_of whole v =
     (if is_initial whole.initial v then Some Initial else option_map (λ o. Thread o.thread) (find (enqueues v) whole.operations))
 
--- whether the two are one
+-- whether two producers are equal
 abbrev pub is_producer : Producer → Producer → Bool
 is_producer Initial Initial = true
 is_producer (Thread s) (Thread t) = nat_eq s t
@@ -49,8 +49,8 @@ abbrev pub judges_empties : Emptiness → Bool
 judges_empties Strict = true
 judges_empties Weak = false
 
--- the selection of a producer: its values and those that nobody enqueues, with all their operations, by whomever; and, if they are judged, all
--- empty dequeues
+-- the selection of a producer: its values and those that nobody enqueues, with all operations on them, by whatever
+-- thread; and, if they are judged, all empty dequeues
 abbrev pub selection_of : Emptiness → Producer → Contents → Contents
 selection_of emptiness p whole = select (counts_for whole p) (λ call. judges_empties emptiness) whole
 
@@ -69,7 +69,7 @@ has_values whole (Thread t) = list_any (λ o. nat_eq o.thread t && is_some (enqu
 abbrev pub all_producers : List Producer
 all_producers = Initial ∷ map Thread (range_with_len 0 MAX_THREADS)
 
--- those of a history
+-- the producers of a history
 abbrev pub producers_of : Contents → List Producer
 producers_of whole = filter (has_values whole) all_producers
 

@@ -1,4 +1,4 @@
--- What is decided of a history under a weaker condition.
+-- The verdict on a history under a weaker condition.
 use Rattle.std.specs.Prelude.{◌≡◌, List, All, map}
 use Rattle.history_merge.specs.declared.operation.Operation.{Operation}
 use Rattle.history_merge.specs.Initial.{Contents}
@@ -19,14 +19,15 @@ use Rattle.conditions.specs.declared.producer.Producer.{Producer}
 use Rattle.conditions.specs.Conditions.{ComesBefore, IsLocallyLinearizable, producers_of, selection_of}
 use Rattle.conditions.specs.Laws.{ShowsIn}
 
--- a `YES` lists a linearization of the selection; a `NO` is evidence in the whole history, and its lines show the violation in the selection too
+-- a `YES` lists a linearization of the selection; a `NO` is evidence in the whole history, and its lines show the
+-- violation in the selection too
 abbrev pub IsEvidenceOf : Contents → Contents → Verdict → Type 0
 IsEvidenceOf whole selected (Yes places) =
     (order : List Operation) × ArePlacesOf whole.operations places order × IsLegalOrder selected.initial selected.operations order
 IsEvidenceOf whole selected (No violation) = IsEvidence whole.initial whole.operations (No violation)
     × ShowsIn selected (violation_kind violation) (lines_at whole.initial whole.operations (violation_places violation))
 
--- the verdict, by places of the whole history, claims what the chosen verdict on the selection claims
+-- the verdict, by places of the whole history, has the same claim as the chosen verdict on the selection
 abbrev pub ClaimsAsChosen : Contents → Contents → Verdict → Type 0
 ClaimsAsChosen whole selected verdict = (chosen : Verdict) × IsDecided selected.initial selected.operations chosen
     × (claim_of whole.initial whole.operations verdict ≡ claim_of selected.initial selected.operations chosen)

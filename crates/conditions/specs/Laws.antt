@@ -11,7 +11,7 @@ use Rattle.conditions.specs.declared.producer.Emptiness.TheVariants.{Strict, Wea
 use Rattle.conditions.specs.declared.producer.Producer.{Producer}
 use Rattle.conditions.specs.Conditions.{IsLocallyLinearizable, IsWeaklyLinearizable, selection_of, without_empties}
 
--- what lines show in these contents
+-- the lines show a violation of this kind in these contents
 abbrev pub ShowsIn : Contents → ViolationKind → List ClaimLine → Type 0
 ShowsIn contents kind lines = Shows contents.initial contents.operations kind lines
 
@@ -31,30 +31,31 @@ ConditionsAreWeaker = (history : HistoryView) → IsCompleteFrom history.initial
     → AreLinearizable (contents_of history)
     → IsWeaklyLinearizable (contents_of history) × ((emptiness : Emptiness) → IsLocallyLinearizable emptiness (contents_of history))
 
--- with weak emptiness local linearizability is weaker still, than with strict emptiness and than weak emptiness alone
+-- with weak emptiness, local linearizability is weaker than with strict emptiness, and weaker than weak emptiness
+-- alone
 abbrev pub BothAreWeakest : Type 0
 BothAreWeakest = (history : HistoryView) → IsCompleteFrom history.initial history.events → length history.initial ≤ MAX_INITIAL
     → (IsLocallyLinearizable Strict (contents_of history) → IsLocallyLinearizable Weak (contents_of history))
     × (IsWeaklyLinearizable (contents_of history) → IsLocallyLinearizable Weak (contents_of history))
 
--- ---- what is minimal for a condition
+-- ---- minimal histories for a condition
 
--- it isn't linearizable without its empty dequeues, while every other selection is
+-- without its empty dequeues the history isn't linearizable, but every other selection is
 abbrev pub IsWeaklyMinimal : Contents → Type 0
 IsWeaklyMinimal whole = ¬ (IsWeaklyLinearizable whole)
     × ((selected : Contents) → IsValueClosed whole selected → selected ≢ whole → IsWeaklyLinearizable selected)
 
--- it isn't locally linearizable, while every other selection is
+-- the history isn't locally linearizable, but every other selection is
 abbrev pub IsLocallyMinimal : Emptiness → Contents → Type 0
 IsLocallyMinimal emptiness whole = ¬ (IsLocallyLinearizable emptiness whole)
     × ((selected : Contents) → IsValueClosed whole selected → selected ≢ whole → IsLocallyLinearizable emptiness selected)
 
--- a minimal history made of one without its empty dequeues is minimal for weak emptiness
+-- a minimal history, selected from one without its empty dequeues, is minimal for weak emptiness
 abbrev pub StaysWeaklyMinimal : Type 0
 StaysWeaklyMinimal = (whole : Contents) (small : HistoryView) → IsCompleteFrom small.initial small.events → length small.initial ≤ MAX_INITIAL
     → IsValueClosed (without_empties whole) (contents_of small) → IsMinimal (contents_of small) → IsWeaklyMinimal (contents_of small)
 
--- a minimal history made of a producer's selection is minimal for local linearizability
+-- a minimal history, selected from a producer's selection, is minimal for local linearizability
 abbrev pub StaysLocallyMinimal : Type 0
 StaysLocallyMinimal = (emptiness : Emptiness) (p : Producer) (whole : Contents) (small : HistoryView) → IsCompleteFrom small.initial small.events
     → length small.initial ≤ MAX_INITIAL → IsValueClosed (selection_of emptiness p whole) (contents_of small) → IsMinimal (contents_of small)

@@ -107,7 +107,7 @@ fn share_out_place(
     }
 }
 
-/// Returns for each producer in use the places of its selection.
+/// Returns the places of the selection of each producer in use.
 pub(crate) fn share_out(
     alloc: Global,
     operations: &Operations<'_>,

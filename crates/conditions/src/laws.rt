@@ -1,16 +1,17 @@
-//! Laws of the conditions. The functions do nothing when they run.
+//! Laws of the conditions, as contracts of functions that do nothing when they run.
 ghost use Rattle.conditions.specs.ClaimLaws.{FirstRefutedIsOne, LocalEvidenceIsTrueClaim, LocalVerdictIsOne, RefutedIsRefutedInTheWhole};
 ghost use Rattle.conditions.specs.ClaimLaws.{TrueLocalClaimDecides, TrueWeakClaimDecides, WeakEvidenceIsTrueClaim, WeakVerdictIsOne};
 ghost use Rattle.conditions.specs.Laws.{BothAreWeakest, ConditionsAreWeaker, SelectionsStayLinearizable};
 ghost use Rattle.conditions.specs.Laws.{StaysLocallyMinimal, StaysWeaklyMinimal, ViolationsAreOfTheWhole};
 
-/// Proves that what shows a violation in a selection of a history shows it in the whole history.
+/// Proves that lines which show a violation in a selection of a history show it in the whole history.
 pub fn violations_are_of_the_whole()
     ensures { ViolationsAreOfTheWhole }
 {}
 
-/// Proves that each selection of a linearizable history is linearizable, so that the history meets each weaker condition; and
-/// that local linearizability with weak emptiness is weaker than with strict emptiness, and than weak emptiness alone.
+/// Proves that each selection of a linearizable history is linearizable, so that the history meets each weaker
+/// condition. Also proves that local linearizability with weak emptiness is weaker than with strict emptiness, and
+/// weaker than weak emptiness alone.
 pub fn conditions_are_weaker()
     ensures selections { SelectionsStayLinearizable }
     ensures conditions { ConditionsAreWeaker }
@@ -24,15 +25,17 @@ pub fn shrunk_selections_are_minimal()
     ensures local { StaysLocallyMinimal }
 {}
 
-/// Proves that the claim of a local verdict is evidence under local linearizability, as [`crate::verify_local`] accepts it, and that
-/// a `NO` that it accepts is evidence in the whole history, as [`verdicts::verify`] accepts it; the same of weak emptiness.
+/// Proves that the claim of a local verdict is evidence under local linearizability, so [`crate::verify_local`]
+/// accepts it, and that a `NO` that it accepts is evidence in the whole history, so [`verdicts::verify`] accepts it.
+/// Proves the same for weak emptiness.
 pub fn evidence_is_a_true_local_claim()
     ensures local { LocalEvidenceIsTrueClaim }
     ensures weak { WeakEvidenceIsTrueClaim }
     ensures refuted { RefutedIsRefutedInTheWhole }
 {}
 
-/// Proves that a history with a `YES` that is evidence under a weaker condition meets it, and one with such a `NO` doesn't.
+/// Proves that a history with a `YES` that is evidence under a weaker condition meets the condition, and that one
+/// with such a `NO` doesn't.
 pub fn true_claims_decide_conditions()
     ensures local { TrueLocalClaimDecides }
     ensures weak { TrueWeakClaimDecides }

@@ -40,20 +40,21 @@ pub struct LocalOrder {
 /// Linearizations of the selections of several producers, seen as the list of them.
 pub type LocalOrders = OwnedSlice<LocalOrder>;
 
-/// Whether a history is locally linearizable, with evidence.
+/// The answer whether a history is locally linearizable, with evidence.
 #[derive(Debug, Drop)]
 pub enum LocalVerdict {
-    /// It is: these are linearizations of its selections, by producer.
+    /// It is locally linearizable. These are linearizations of its selections, by producer.
     Yes(LocalOrders),
-    /// It isn't: this is the first producer whose selection isn't linearizable, with a violation in it. The violation is one
+    /// It isn't. This is the first producer whose selection isn't linearizable, with a violation in it, which is one
     /// of the whole history too.
     No(Producer, Violation),
 }
 
 impl LocalVerdict {
-    /// Returns a verdict by which the evidence can be written: `Yes` with the linearizations one after another, or the `No`.
+    /// Returns a verdict as which the evidence can be written: `Yes` with the linearizations one after another, or
+    /// the `No`.
     ///
-    /// [`crate::verify_local`] accepts its claim. Time and memory in proportion to the linearizations.
+    /// [`crate::verify_local`] accepts its claim. Takes time and memory in proportion to the linearizations.
     pub fn into_verdict(self, alloc: Global) -> Result<Verdict, AllocError>
         ensures { IfOk result (λ verdict. verdict ≡ verdict_of self) }
     {
@@ -99,11 +100,12 @@ fn part_for(
     part_of(alloc, history, initial, places)
 }
 
-/// Returns the selection of a producer: its values, and those that nobody enqueues, with all their operations, by whomever;
-/// and all empty dequeues with strict emptiness, none with weak. Operations keep their tickets, and so their order.
+/// Returns the selection of a producer: its values, and those that nobody enqueues, with all operations on them, by
+/// whatever thread. It also has all empty dequeues with strict emptiness, and none with weak. Operations keep their
+/// tickets, and so their order.
 ///
-/// A thread's values are those that it enqueues, successfully or not. Time O(n log n) for n events, and memory in
-/// proportion.
+/// A thread's values are those that it enqueues, successfully or not. Takes O(n log n) time for n events, and memory
+/// in proportion.
 pub fn selection(
     alloc: Global,
     history: &History,
@@ -118,7 +120,7 @@ pub fn selection(
     Ok(history)
 }
 
-/// Decides whether a producer's selection is linearizable, by places of the whole history.
+/// Decides whether a producer's selection is linearizable. The verdict names places of the whole history.
 fn decide_selection<S: WitnessSearch>(
     search: &S,
     alloc: Global,
@@ -138,7 +140,7 @@ fn decide_selection<S: WitnessSearch>(
     moved_verdict(alloc, places, &verdict)
 }
 
-/// Decides for each producer's selection, up to the first that isn't linearizable.
+/// Decides whether each producer's selection is linearizable, up to the first that isn't.
 fn decide_selections<S: WitnessSearch>(
     search: &S,
     alloc: Global,
@@ -166,18 +168,18 @@ fn decide_selections<S: WitnessSearch>(
     Ok(LocalVerdict::Yes(LocalOrders::from_vec(orders)))
 }
 
-/// Decides whether a history is locally linearizable (Haas, Henzinger, Holzer, Kirsch, Lippautz, Payer, Sezgin, Sokolova
-/// and Veith, CONCUR 2016): whether each producer's [`selection`] is linearizable.
+/// Decides whether a history is locally linearizable (Haas, Henzinger, Holzer, Kirsch, Lippautz, Payer, Sezgin,
+/// Sokolova and Veith, CONCUR 2016): whether each producer's [`selection`] is linearizable.
 ///
-/// `Yes` has a linearization for each producer of the history: first for the initial values, even if there are none, and
-/// then for each thread that enqueues a value, by number. `No` has the first of these whose selection isn't linearizable,
-/// with the violation that [`verdicts::decide`] chooses in it. Both name places of the whole history. The violation is one
-/// of the whole history, so [`verdicts::verify`] accepts its claim.
+/// `Yes` has a linearization for each producer of the history: first for the initial values, even if there are none,
+/// and then for each thread that enqueues a value, by number. `No` has the first of these whose selection isn't
+/// linearizable, with the violation that [`verdicts::decide`] chooses in it. Both name places of the whole history.
+/// The violation is one of the whole history, so [`verdicts::verify`] accepts its claim.
 ///
 /// A dequeue of a value that nobody enqueued is in each selection, so the initial values' producer has it.
 ///
-/// The operations are shared out in one pass. Time O((n + p e) log n) for n events, p producers and e empty dequeues, and
-/// memory in proportion to n + p e.
+/// The operations are shared out in one pass. Takes O((n + p e) log n) time for n events, p producers and e empty
+/// dequeues, and memory in proportion to n + p e.
 pub fn decide_local(
     alloc: Global,
     history: &History,
@@ -188,9 +190,9 @@ pub fn decide_local(
     decide_local_by(&OnePiece, alloc, history, emptiness)
 }
 
-/// What [`decide_local`] answers, where the searches for covers run in pieces that may run at once.
+/// Returns what [`decide_local`] returns, but searches for covers in pieces that may run at once.
 ///
-/// Whatever the number of pieces, the answer is the same.
+/// The result doesn't depend on the number of pieces.
 pub fn decide_local_par<R: Threads + Sync>(
     rt: &R,
     alloc: Global,
@@ -204,7 +206,7 @@ pub fn decide_local_par<R: Threads + Sync>(
     decide_local_by(&InPieces { rt, pieces }, alloc, history, emptiness)
 }
 
-/// What [`decide_local`] answers, by this search for covers.
+/// Returns what [`decide_local`] returns, with this search for covers.
 pub fn decide_local_by<S: WitnessSearch>(
     search: &S,
     alloc: Global,
@@ -215,6 +217,7 @@ pub fn decide_local_by<S: WitnessSearch>(
     ensures { IfOk result (IsLocallyDecided emptiness (contents_of history.now)) }
 {
     let selections = selections_of(alloc, history, emptiness)?;
+    // Tells the proof that the history is complete and within the limits, as the contracts of these calls say.
     let _initial = history.initial();
     decide_selections(search, alloc, history, &selections)
 }

@@ -7,7 +7,7 @@ use std::alloc::{AllocError, Global};
 use value_match::{Cover, CoverStep, Source, Violation};
 use verdicts::{Order, Verdict};
 
-/// Returns the place that stands at this place.
+/// Returns the entry of `places` at this place, or the place itself past their end.
 #[inline(always)]
 fn moved_place(places: &[OpId], place: OpId) -> OpId
     ensures { result ≡ moved_place places.now place }
@@ -107,7 +107,7 @@ fn moved_violation(
     }
 }
 
-/// Returns the verdict by the places of the whole, where the selection's operations stand at these places.
+/// Returns the verdict by places of the whole, where `places` are those of the selection's operations.
 pub(crate) fn moved_verdict(
     alloc: Global,
     places: &[OpId],

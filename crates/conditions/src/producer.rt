@@ -7,11 +7,11 @@ pub enum Producer {
     Thread(u8),
 }
 
-/// The promise of a dequeue that finds the queue empty.
+/// The guarantee of an empty dequeue.
 #[derive(Clone, Copy, Debug, PartialEq, Eq)]
 pub enum Emptiness {
     /// The queue was empty at some moment during the call.
     Strict,
-    /// Nothing.
+    /// No guarantee.
     Weak,
 }

@@ -11,21 +11,21 @@ use event_records::ORIGIN;
 use history_merge::{History, Operation, PackedOperation};
 use std::alloc::{AllocError, Global};
 
-/// A value with its producer.
+/// A value and its producer.
 #[derive(Clone, Copy)]
 pub(crate) struct Produced {
     value: u64,
     producer: Producer,
 }
 
-/// Each value that is enqueued, with its producer, by value.
+/// Each enqueued value and its producer, sorted by value.
 #[derive(Drop)]
 pub(crate) struct Producers {
     by_value: Vec<Produced>,
 }
 
 impl Producers {
-    /// Lists the producers of a history's values. Time O(n log n) for n enqueues and initial values.
+    /// Lists the producers of a history's values. Takes O(n log n) time for n enqueues and initial values.
     pub(crate) fn new(alloc: Global, history: &History) -> Result<Producers, AllocError>
         ensures { IfOk result (λ producers. AreProducers (contents_of history.now) producers.by_value.items) }
     {
@@ -34,7 +34,7 @@ impl Producers {
         Ok(Producers { by_value })
     }
 
-    /// Returns the place of a value, if anybody enqueues it. The guess costs little if it is right.
+    /// Returns the place of a value, if it is enqueued. A right guess makes this fast.
     fn find(&self, guess: usize, value: u64) -> Option<usize>
         ensures within { IfSome result (λ place. place < length self.now.by_value.items) }
         ensures found { (whole : Contents) → AreProducers whole self.now.by_value.items
@@ -50,9 +50,9 @@ impl Producers {
         }
     }
 
-    /// Returns the producer of a value, if anybody enqueues it.
+    /// Returns the producer of a value, if it is enqueued.
     ///
-    /// A thread's values mostly come in order, so each one is looked for where it stands after the last one of its name.
+    /// A thread's values mostly come in order, so each is first searched just after the previous one of its name.
     pub(crate) fn producer_of(
         &self,
         guesses: &mut [usize],
@@ -67,7 +67,7 @@ impl Producers {
     }
 }
 
-/// Returns whether the value stands at the place.
+/// Returns whether the value is at this place.
 fn stands_at(by_value: &[Produced], place: usize, value: u64) -> bool
     requires { place < length by_value.now }
     ensures { (d : Produced) → IsTrue result ↔ ((slice_index_or by_value.now place d).value ≡ value) }
@@ -83,7 +83,7 @@ fn guess_in(guesses: &[usize], slot: usize) -> usize {
     }
 }
 
-/// Guesses that the next value of a slot stands after this place.
+/// Notes the place of a value. The guess for the next value of the slot is just after it.
 fn note(guesses: &mut [usize], slot: usize, place: usize) {
     if slot < guesses.len() {
         guesses[slot] = place.wrapping_add(1);

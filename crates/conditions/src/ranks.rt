@@ -1,4 +1,4 @@
-//! The producers by rank, and which of them a history has.
+//! Producers by rank, and those of a history.
 ghost use Rattle.std.specs.Prelude.{◌≡◌, ◌<◌, ◌≤◌, ◌++◌, ◌∷◌, [], List, length};
 ghost use Rattle.event_records.specs.declared.limits.TheConstants.{MAX_EVENTS};
 ghost use Rattle.history_merge.specs.declared.operation.Operation.{Operation};
@@ -8,7 +8,7 @@ use crate::producer::Producer;
 use event_records::MAX_THREADS;
 use history_merge::{OpId, Operation, Operations};
 
-/// Number of producers: the initial values, and the threads.
+/// The number of producers: the initial values, and the threads.
 pub(crate) const PRODUCERS: usize = MAX_THREADS + 1;
 
 /// Returns the producer of this rank: the initial values first, and then the threads by number.

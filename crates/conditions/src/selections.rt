@@ -16,12 +16,12 @@ use crate::ranks::{PRODUCERS, marked};
 use history_merge::{History, OpId};
 use std::alloc::{AllocError, Global};
 
-/// The places of each selection, by the rank of its producer.
+/// The places of the selections, by the rank of their producers.
 #[derive(Drop)]
 pub(crate) struct Selections {
     /// Whether the history has the producer of this rank.
     pub(crate) used: [bool; PRODUCERS],
-    /// The places of its selection's operations, if it has.
+    /// The places of the selection's operations, if the history has its producer.
     pub(crate) buckets: Vec<Bucket>,
 }
 
@@ -54,7 +54,7 @@ pub(crate) fn initial_of(
     }
 }
 
-/// Returns a producer's selection, whose operations stand at these places.
+/// Returns a producer's selection, whose operations have these places.
 pub(crate) fn part_at(
     alloc: Global,
     history: &History,

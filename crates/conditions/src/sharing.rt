@@ -12,10 +12,11 @@ use event_records::MAX_THREADS;
 use history_merge::{OpId, OpKind, Operations};
 use std::alloc::{AllocError, Global};
 
-/// Number of slots for guesses: two for each thread.
+/// The number of slots for guesses: two for each thread.
 pub(crate) const GUESSES: usize = 2 * MAX_THREADS;
 
-/// Returns the slot for the guess of a value: of those that a recorder's name gives to one thread, enqueues and dequeues apart.
+/// Returns the slot for the guess of a value. Values that recorders name for different threads have different slots,
+/// and so have enqueues and dequeues.
 fn slot_of(value: u64, which: usize) -> usize {
     ((value >> 32) as usize).wrapping_mul(2).wrapping_add(which)
 }
@@ -29,7 +30,7 @@ pub(crate) enum Share {
 }
 
 impl Share {
-    /// Returns whether this producer is one of them.
+    /// Returns whether this producer is one of these.
     fn goes_to(self, producer: Producer) -> bool
         ensures { result ≡ goes_to producer self }
     {
@@ -74,7 +75,7 @@ pub(crate) fn share_of(
     }
 }
 
-/// Returns whether the operation at this place belongs to the producer's selection.
+/// Returns whether the operation at `place` belongs to the producer's selection.
 fn is_selected(
     operations: &Operations<'_>,
     place: OpId,

@@ -21,10 +21,11 @@ use history_merge::{History, OpId, Operation};
 use std::alloc::{AllocError, Global};
 use verdicts::{Claimed, Lines, verify};
 
-/// Returns whether a claim is evidence in the history without its empty dequeues: a `YES` that lists a linearization of all
-/// other operations, or a `NO` that shows a violation among them. [`verdicts::verify`] accepts such a `NO` too.
+/// Returns whether a claim is evidence in the history without its empty dequeues: a `YES` that lists a linearization
+/// of all other operations, or a `NO` that shows a violation among them. [`verdicts::verify`] accepts such a `NO`
+/// too.
 ///
-/// Time O(n log n) for n operations, and memory in proportion.
+/// Takes O(n log n) time for n operations, and memory in proportion.
 pub fn verify_weakly_empty(
     alloc: Global,
     history: &History,
@@ -36,7 +37,7 @@ pub fn verify_weakly_empty(
     verify(alloc, &part.history, claimed)
 }
 
-/// Returns whether a claim is evidence in a producer's selection, whose operations stand at these places.
+/// Returns whether a claim is evidence in a producer's selection, whose operations have these places.
 fn is_true_of(
     alloc: Global,
     history: &History,
@@ -55,7 +56,7 @@ fn is_true_of(
     verify(alloc, &selection.history, claimed)
 }
 
-/// Returns whether these lines are a linearization of a producer's selection, whose operations stand at these places.
+/// Returns whether these lines are a linearization of a producer's selection, whose operations have these places.
 fn is_order_of(
     alloc: Global,
     history: &History,
@@ -130,11 +131,11 @@ fn is_true_of_some(
     Ok(false)
 }
 
-/// Returns whether a claim is evidence under local linearizability: a `YES` that lists linearizations of the producers'
-/// [`crate::selection`]s one after another, in the order of [`crate::decide_local`], or a `NO` that shows a violation in one of
-/// them. [`verdicts::verify`] accepts such a `NO` too.
+/// Returns whether a claim is evidence under local linearizability: a `YES` that lists linearizations of the
+/// producers' [`crate::selection`]s one after another, in the order of [`crate::decide_local`], or a `NO` that shows
+/// a violation in one of them. [`verdicts::verify`] accepts such a `NO` too.
 ///
-/// Time O((n + p e) log n) for n events, p producers and e empty dequeues, and memory in proportion to n + p e.
+/// Takes O((n + p e) log n) time for n events, p producers and e empty dequeues, and memory in proportion to n + p e.
 pub fn verify_local(
     alloc: Global,
     history: &History,
@@ -144,6 +145,7 @@ pub fn verify_local(
     ensures exact { IfOk result (λ valid. IsTrue valid ↔ IsTrueLocalClaim emptiness (contents_of history.now) claimed.now) }
 {
     let selections = selections_of(alloc, history, emptiness)?;
+    // Tells the proof that the history is complete and within the limits, as the contracts of these calls say.
     let _initial = history.initial();
     match claimed {
         Claimed::Yes(lines) => are_orders_in_turn(alloc, history, &selections, lines.as_slice()),

@@ -1,4 +1,4 @@
-//! Weak emptiness: a dequeue that finds the queue empty promises nothing.
+//! Weak emptiness: an empty dequeue guarantees nothing.
 ghost use Rattle.std.specs.Prelude.{◌≡◌, ◌≤◌, IfOk, Some, false, filter, length, slice_get, true};
 ghost use Rattle.event_records.specs.declared.limits.TheConstants.{MAX_EVENTS};
 ghost use Rattle.history_merge.specs.Initial.{IsCompleteFrom};
@@ -18,7 +18,7 @@ use std::alloc::{AllocError, Global};
 use std::thread::Threads;
 use verdicts::{Verdict, decide_by};
 
-/// Returns whether the operation at this place has a value: it is no empty dequeue.
+/// Returns whether the operation at `place` has a value, which only an empty dequeue has not.
 fn has_value(operations: &Operations<'_>, place: OpId) -> bool
     ensures { (o : Operation) → slice_get operations.now place ≡ Some o → result ≡ selects (λ value. true) (λ call. false) o }
 {
@@ -58,9 +58,9 @@ pub(crate) fn part_without_empties(alloc: Global, history: &History) -> Result<P
     part_of(alloc, history, initial, places)
 }
 
-/// Returns the history without its empty dequeues. All else keeps its tickets, and so its order.
+/// Returns the history without its empty dequeues. All other operations keep their tickets, and so their order.
 ///
-/// Time O(n log n) for n events, and memory in proportion.
+/// Takes O(n log n) time for n events, and memory in proportion.
 pub fn without_empties(alloc: Global, history: &History) -> Result<History, AllocError>
     ensures selected { IfOk result (λ part. contents_of part ≡ without_empties (contents_of history.now)) }
     ensures events { IfOk result (λ part. ArePartOf history.now.events part.events) }
@@ -70,20 +70,20 @@ pub fn without_empties(alloc: Global, history: &History) -> Result<History, Allo
     Ok(history)
 }
 
-/// Decides whether a history is linearizable if a dequeue that finds the queue empty promises nothing: `Yes` with a
+/// Decides whether a history is linearizable if an empty dequeue guarantees nothing. Returns `Yes` with a
 /// linearization of all other operations, or `No` with a violation, which is one of the whole history too.
 ///
-/// It is what [`verdicts::decide`] returns for the history without its empty dequeues, by places of the whole history.
-/// Time O(n log n) for n events, and memory in proportion.
+/// This is what [`verdicts::decide`] returns for the history without its empty dequeues, by places of the whole
+/// history. Takes O(n log n) time for n events, and memory in proportion.
 pub fn decide_weakly_empty(alloc: Global, history: &History) -> Result<Verdict, AllocError>
     ensures { IfOk result (IsDecidedOf (contents_of history.now) (without_empties (contents_of history.now))) }
 {
     decide_weakly_empty_by(&OnePiece, alloc, history)
 }
 
-/// What [`decide_weakly_empty`] answers, where the search for a cover runs in pieces that may run at once.
+/// Returns what [`decide_weakly_empty`] returns, but searches for a cover in pieces that may run at once.
 ///
-/// Whatever the number of pieces, the answer is the same.
+/// The result doesn't depend on the number of pieces.
 pub fn decide_weakly_empty_par<R: Threads + Sync>(
     rt: &R,
     alloc: Global,
@@ -96,7 +96,7 @@ pub fn decide_weakly_empty_par<R: Threads + Sync>(
     decide_weakly_empty_by(&InPieces { rt, pieces }, alloc, history)
 }
 
-/// What [`decide_weakly_empty`] answers, by this search for a cover.
+/// Returns what [`decide_weakly_empty`] returns, with this search for a cover.
 pub fn decide_weakly_empty_by<S: WitnessSearch>(
     search: &S,
     alloc: Global,

@@ -1,7 +1,7 @@
--- The way of the argument: Loops: what one more element adds to a line, and one more piece to a text.
--- Below: how many elements pass a test, where another lets more pass, and so lanes stand apart.
--- Nearness: what is drawn, the bars in the lanes are that, and the numbers are those of the claim.
--- Rows: the effects of a `YES` rise within the bars, and rows stand in the order of time.
+-- How the argument goes: Loops: one more element of a line, and one more piece of a text. Below: the number of
+-- elements that pass a test, if another lets more pass, so lanes are apart. Nearness: the drawn operations are the
+-- bars in the lanes, and the numbers are those of the claim. Rows: the effects of a `YES` rise within the bars, and
+-- rows are in the order of time.
 mod Common
 pub mod Loops
 pub mod Naming

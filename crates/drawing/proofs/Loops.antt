@@ -1,4 +1,4 @@
--- What a loop adds with one more element.
+-- One more element of a loop.
 use Rattle.drawing.proofs.Common.{[], ap, append-nil, append_assoc, arith, ClaimLine, drop, enumerate_from, nat_tests}
 use Rattle.drawing.proofs.Common.{fold-append, fold_more, get_or, greatest_call, length, length-take-le, List, map-id}
 use Rattle.drawing.proofs.Common.{map-range_with_len_more, max, Operation, point, range_with_len, refl, sym, take}
@@ -7,7 +7,7 @@ use Rattle.drawing.specs.Captions.{cover_caption, one_of_cover}
 use Rattle.std.proofs.lemmas.List.{map-append, take_more}
 use Rattle.std.proofs.lemmas.Grind.{flat_map-append, take_at_read}
 
--- ---- texts to which pieces are added in turn
+-- ---- texts that grow by pieces
 
 -- the first value of a cover, and the rest
 pub cover_more : (number : ℕ) (lines : List ClaimLine) (d e : ClaimLine) → 2 ≤ length lines
@@ -16,12 +16,12 @@ pub cover_more : (number : ℕ) (lines : List ClaimLine) (d e : ClaimLine) → 2
 cover_more number (x ∷ y ∷ rest) d e h = grind (arith, take_all)
 cover_more number lines d e h = absurd (omega arith)
 
--- the same, and texts to which pieces are added in turn
+-- covers, and texts that grow by pieces
 pub ruleset covers = (cover_more, append_assoc)
 
--- ---- what a loop adds with one more element
+-- ---- one more element of a loop
 
--- one number more
+-- one more number
 pub range_more : (n : ℕ) → range_with_len 0 (n + 1) ≡ range_with_len 0 n ++ n ∷ []
 range_more n = sym (map-id _) ∙ map-range_with_len_more (λ k. k) 0 n n (zero-add n) ∙ ap (λ (ks : List ℕ). ks ++ n ∷ []) (map-id _)
 
@@ -34,15 +34,15 @@ enumerated-append : {X : Type 0} (a : ℕ) (xs : List X) (x : X) → enumerate_f
 enumerated-append a [] x = let e : a ≡ a + 0 = omega arith in ap (λ (i : ℕ). (i, x) ∷ []) e
 enumerated-append a (y ∷ ys) x = grind (arith, enumerated-append (a + 1) ys x)
 
--- one element more, with its place
+-- one more element with its place
 pub enumerated_more : {X : Type 0} (xs : List X) (i : ℕ) (d : X) → i < length xs
     → enumerate_from 0 (take (i + 1) xs) ≡ enumerate_from 0 (take i xs) ++ (i, get_or xs i d) ∷ []
 enumerated_more xs i d within = grind (arith, nat_tests, common_steps, length-take-le, take_more, enumerated-append)
 
--- the same as `grind` finds it: at the element that is read
+-- one more element, at the read that `grind` finds
 pub enumerate_at_read : {X : Type 0} (xs : List X) (i : ℕ) (d : X) → i < length xs
     → (get_or xs i d ≡ get_or xs i d) × (enumerate_from 0 (take (i + 1) xs) ≡ enumerate_from 0 (take i xs) ++ (i, get_or xs i d) ∷ [])
 enumerate_at_read xs i d within = (refl, enumerated_more xs i d within)
 
--- what a loop over places adds
+-- one more place of a loop
 pub ruleset steps = (enumerate_at_read, take_at_read, range_more, append_assoc, append-nil, flat_map-append, map-append, fold-append)

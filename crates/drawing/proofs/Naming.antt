@@ -1,4 +1,4 @@
--- Different values have different names: a value is read back from its name.
+-- Different values have different names, since a value is read back from its name.
 use Rattle.drawing.proofs.Common.{All, All-weaker, AllPass-from_list_all, ap, arith, Bool, cond, decimal, drop, false}
 use Rattle.drawing.proofs.Common.{get_or, InitialValuesHaveTheirNames, List, list_all, nat_tests, refl, slice_split}
 use Rattle.drawing.proofs.Common.{sym, true, ValuesHaveTheirNames, [], ℕ, ◌*◌, ◌+◌, ◌<◌, ◌==◌, ◌^◌, ◌∙◌, ◌∷◌, ◌≡◌}
@@ -24,11 +24,11 @@ value_of [] = 0
 value_of (digits ∷ []) = digits_value 10 digits
 value_of (owner ∷ digits ∷ others) = cond (list_all is_ascii_digit owner) (digits_value 10 owner * 4294967296) 274877906944 + digits_value 10 digits
 
--- the value with this name, which colons cut into parts
+-- the value with this name, which colons separate into parts
 abbrev read : List ℕ → ℕ
 read text = value_of (slice_split is_colon text)
 
--- the initial value with this label: that of its name, where the label is no name
+-- the initial value with this label: that of its name, unless the label is a name
 abbrev read_initial : List ℕ → ℕ
 read_initial text = read (cond (get_or text 4 0 == 32) (drop 5 text) text)
 
@@ -51,7 +51,7 @@ number n small = digits_value-decimal (numerals_by_value _ digits_test) n small
 read_back : (v : ℕ) → v < 2 ^ 64 → read (value_text v) ≡ v
 read_back v small = grind (arith, one_part, number, slice_split_at, no_colon, all_digits)
 
--- a label of an initial value is read like its name
+-- a label of an initial value is read as its name
 read_label : (name : Name) → read_initial (initial_text name) ≡ read (name_text name)
 read_label (OfThread thread place) = refl
 read_label (OfInitial place) = refl

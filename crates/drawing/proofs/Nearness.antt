@@ -1,4 +1,5 @@
--- Which operations are drawn: those that overlap one of a `NO`, and with no distance no others; and the bars in the lanes are these.
+-- The drawn operations: those that overlap one of a `NO`, and at distance 0 no others. The bars in the lanes are
+-- these.
 use Rattle.drawing.proofs.Common.{ap, AreComplete, arith, BarsAreOfOperations, Bool, cases_lt, Claimed, ClaimLine}
 use Rattle.drawing.proofs.Common.{cond, cond_both, Contains, contains_at}
 use Rattle.drawing.proofs.Common.{contains_cons, count_by, drawn_operations, eq-eqb, eqb-true, Event, events_before}
@@ -26,20 +27,20 @@ use Rattle.drawing.specs.declared.scene.Row.TheVariants as row
 
 -- ---- lists
 
--- an element that passes is found
+-- if an element passes a test, some element does
 pub any_of : {X : Type 0} (p : X → Bool) (xs : List X) (x : X) → Contains xs x → p x ≡ true → list_any p xs ≡ true
 any_of p xs x among passes = list_any-from_Any p xs (among.0, x, among.1, among.2, passes)
 
--- one that is found passes
+-- if some element passes a test, there is one
 some_passes : {X : Type 0} (p : X → Bool) (xs : List X) → list_any p xs ≡ true → (x : X) × Contains xs x × (p x ≡ true)
 some_passes p xs is = let one = Any-from_list_any p xs is in (one.1, (one.0, one.2, one.3), one.4)
 
--- a test of what elements are made into
+-- a test of mapped elements
 any_mapped : {X Y : Type 0} (p : Y → Bool) (f : X → Y) (xs : List X) → list_any p (map f xs) ≡ list_any (λ x. p (f x)) xs
 any_mapped p f [] = refl
 any_mapped p f (x ∷ xs) = ap (λ (b : Bool). p (f x) || b) (any_mapped p f xs)
 
--- as many pass as stand before the first that fails, if none passes after it
+-- the number of elements that pass is the place of the first that fails, if none passes after it
 pub counted_up_to : {X : Type 0} (p : X → Bool) (xs : List X) (i : ℕ) → i ≤ length xs → ((k : ℕ) (d : X) → k < i → p (get_or xs k d) ≡ true)
     → ((k : ℕ) (d : X) → i ≤ k → k < length xs → p (get_or xs k d) ≡ false) → i ≡ count_by p xs
 counted_up_to p [] i within passes fails = omega arith
@@ -61,7 +62,7 @@ no_earlier_ticket events rise i j e r at_i at_j le = elim (cases_lt i j) [
       omega arith
 ]
 
--- tickets rise, so those below one come first
+-- the tickets below a given one come first, since tickets rise
 pub parted_by_ticket : (events : List Event) (ticket : ℕ) → TicketsRise events → IsPartitionedBy (λ e. nat_lt e.ticket ticket) events
 parted_by_ticket events ticket rise = IsPartitionedBy-ltb (λ (e : Event). e.ticket) events ticket (λ i j d le within.
     no_earlier_ticket events rise i j _ _ (slice_get-get_or events i d (omega arith)) (slice_get-get_or events j d within) le)
@@ -76,9 +77,9 @@ from_operations [] o among = absurd (not_in_none o among)
 from_operations (Op x ∷ lines) o among = grind (arith, contains_cons, contains_at, one_deeper, from_operations lines o)
 from_operations (Initial v ∷ lines) o among = one_deeper (Initial v) lines (Op o) (from_operations lines o among)
 
--- ---- what is drawn
+-- ---- drawn operations
 
--- only operations of the history are
+-- each drawn operation is one of the history
 pub among_operations : (history : HistoryView) (claimed : Claimed) (around : Option ℕ) (o : Operation) → Contains (drawn_operations history claimed around) o
     → Contains (operations_of history.events) o
 among_operations history (Yes listed) around o among = among
@@ -86,11 +87,11 @@ among_operations history (No kind lines) None o among = among
 among_operations history (No kind lines) (Some n) o among =
     (passed_filter (is_near_any history.events n (operations_in lines)) (operations_of history.events) o among).0
 
--- no fewer events come before a later ticket
+-- at least as many events come before a later ticket
 before_rises : (events : List Event) (s t : ℕ) → s ≤ t → events_before events s ≤ events_before events t
 before_rises events s t no_later = fewer (λ e. nat_lt e.ticket s) (λ e. nat_lt e.ticket t) (λ e before. grind (arith, nat_tests)) events
 
--- more come before a ticket after a return
+-- more events come before a ticket after a return
 before_grows : (events : List Event) (o : Operation) (t : ℕ) → Contains (operations_of events) o → o.ret < t
     → events_before events o.ret < events_before events t
 before_grows events o t among less =
@@ -134,7 +135,7 @@ lines_are_drawn history kind lines around complete all_among o listed =
 
 -- ---- bars
 
--- where an element passes, one is found
+-- if an element passes a test, `find` gives one
 pub found : {X : Type 0} (p : X → Bool) (xs : List X) (x : X) → Contains xs x → p x ≡ true → (r : X) × (find p xs ≡ Some r)
 found p [] x among passes = absurd (not_in_none x among)
 found p (y ∷ ys) x among passes = cond_both (p y) (Some y) (find p ys) (λ f. (r : _) × (f ≡ Some r)) (λ is. (y, refl)) (λ is. elim (contains_cons y ys x among) [
@@ -142,7 +143,7 @@ found p (y ∷ ys) x among passes = cond_both (p y) (Some y) (find p ys) (λ f. 
   | inr there ↦ found p ys x there passes
 ])
 
--- what stands in a lane is the bar of an operation of its thread
+-- the bar in a lane is that of an operation of its thread
 pub no_other_bars : NoOtherBars
 no_other_bars added_from operations thread ticket o is =
     let first = found_first (is_under_way added_from thread ticket) operations o is in
@@ -154,18 +155,18 @@ no_other_bars added_from operations thread ticket o is =
       lasts = grind (arith, nat_tests);
     }
 
--- a ticket that was not added is none above one that was
+-- a ticket that wasn't added is below each one that was
 pub seen_before_added : (added_from : Option ℕ) (seen added : ℕ) → is_added added_from seen ≡ false → is_added added_from added ≡ true → seen ≤ added
 seen_before_added None seen added before from = cc
 seen_before_added (Some first) seen added before from = grind (arith, nat_tests)
 
--- ---- one operation at a time
+-- ---- one operation of a thread at a time
 
 module _ (events : List Event) (complete : IsCompleteHistory events) where
   all : AreComplete (operations_of events)
   all = operations_are_complete events complete
 
-  -- an operation of a thread that is called after another is so after its return
+  -- an operation of a thread that is called after another is called after its return
   not_both : (x y : Operation) (tx : IsTraced events x) (ty : IsTraced events y) → Contains (operations_of events) x
       → Contains (operations_of events) y → x.thread ≡ y.thread → tx.called_at < ty.called_at → y.call ≤ x.ret → ⊥
   not_both x y tx ty in_x in_y threads below no_later = elim (cases_lt ty.called_at tx.returned_at) [
@@ -179,13 +180,13 @@ module _ (events : List Event) (complete : IsCompleteHistory events) where
         returns_at_no_call events x y complete in_x in_y (omega (arith, tx.made.returned, ty.made.called))
   ]
 
-  -- an operation that lasts to a ticket returns no earlier than others are called up to that ticket
+  -- an operation that lasts to a ticket doesn't return before others that are called up to that ticket
   lasts_over : (added_from : Option ℕ) (x y : Operation) (c : ℕ) → NoCallsAreAdded added_from (operations_of events) → Contains (operations_of events) y
       → LastsTo added_from c x → y.call ≤ c → y.call ≤ x.ret
   lasts_over added_from x y c no_calls in_y (inl to) from = omega arith
   lasts_over added_from x y c no_calls in_y (inr pending) from = seen_before_added added_from y.call x.ret (no_calls y in_y) pending
 
-  -- one operation of a thread at most is under way at a ticket
+  -- at most one operation of a thread is under way at a ticket
   one_bar : (x y : Operation) → Contains (operations_of events) x → Contains (operations_of events) y → x.thread ≡ y.thread → y.call ≤ x.ret
       → x.call ≤ y.ret → x ≡ y
   one_bar x y in_x in_y threads x_lasts y_lasts =
@@ -217,11 +218,11 @@ bars_are_of_operations history claimed around added_from o ticket complete no_ca
 
 -- ---- the numbers of a claim, and its lines of evidence, which are operations and initial values of the history
 
--- the first place at which an element passes, where it is within the list
+-- the first place at which an element passes is within the list
 place_if : {X : Type 0} (d : X) (xs : List X) (p : X → Bool) (i : ℕ) → position p xs ≡ Some i → (x : X) × (slice_get xs i ≡ Some x) × (p x ≡ true)
 place_if d xs p i at = let first = position-Some p xs i d at in (get_or xs i d, slice_get-get_or xs i d first.0, first.1)
 
--- where a line passes, there is a first place at which one does
+-- if a line passes a test, there is a first place at which one does
 place_of_one : (lines : List ClaimLine) (p : ClaimLine → Bool) (x : ClaimLine) → Contains lines x → p x ≡ true → (i : ℕ) × (position p lines ≡ Some i)
 place_of_one lines p x among passes =
     let some = found p lines x among passes in
@@ -229,7 +230,7 @@ place_of_one lines p x among passes =
     let within = slice_get_within lines (position_or_len p lines) some.0 at in
     (position_or_len p lines, ap (λ (b : Bool). cond b (Some (position_or_len p lines)) None) (lt-ltb _ _ within))
 
--- a number is that of the line
+-- a number is that of its line
 pub numbers_are_of_lines : NumbersAreOfLines
 numbers_are_of_lines events lines o i complete all_among among at = let h = place_if (Initial 0) lines (stands_in (row.Ticket o.call)) i at in same_line h.0 h.1 h.2
   where
@@ -258,7 +259,7 @@ initial_lines_have_numbers lines j v among = place_of_one lines (stands_in (row.
 
 -- ---- evidence
 
--- the lines of evidence are of the history
+-- the lines of evidence are lines of the history
 pub lines_are_of_history : LinesAreOfHistory
 lines_are_of_history initial operations kind lines few shows = (
   λ o among. operation_among initial operations o (each_there initial operations kind lines shows (Op o) among),

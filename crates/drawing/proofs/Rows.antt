@@ -1,4 +1,4 @@
--- Rows stand in the order of time.
+-- Rows are in the order of time.
 use Rattle.drawing.proofs.Common.{add-one, ap, ap₂, arith, cases_lt, Claimed, common_steps, cond, cond_both, Contains}
 use Rattle.drawing.proofs.Common.{Contains-append_left, Contains-append_right, Contains-permutation, contains_at}
 use Rattle.drawing.proofs.Common.{contains_cons, effect_if, effect_rows, enumerate_from, eq-eqb, eqb-true, Event}
@@ -26,16 +26,16 @@ use Rattle.history_merge.proofs.Lists.{into_flat_map}
 
 -- ---- the effects of a `YES`, and the numbers of a claim
 
--- the greatest so far
+-- the greatest call so far
 abbrev greatest_from : ℕ → List Operation → ℕ
 greatest_from g operations = fold (λ greatest o. max greatest o.call) g operations
 
--- it is at least what it begins with
+-- the greatest call is at least the number that it starts from
 from_rises : (g : ℕ) (operations : List Operation) → g ≤ greatest_from g operations
 from_rises g [] = omega arith
 from_rises g (o ∷ rest) = let more = from_rises (max g o.call) rest in omega arith
 
--- it rises with more operations
+-- the greatest call rises with more operations
 longer : (g : ℕ) (operations : List Operation) (m n : ℕ) → m ≤ n → greatest_from g (take m operations) ≤ greatest_from g (take n operations)
 longer g operations zero n le = from_rises g (take n operations)
 longer g operations (suc m) zero le = absurd (omega arith)
@@ -53,7 +53,7 @@ call_at_most g (x ∷ rest) zero o at = let same : x ≡ o = cc in let more = fr
     ap (λ y. y.call) same in omega arith
 call_at_most g (x ∷ rest) (suc i) o at = call_at_most (max g x.call) rest i o at
 
--- what holds of each call holds of the greatest
+-- a property of each call holds of the greatest
 of_greatest : (P : ℕ → Type 0) (g : ℕ) (order : List Operation) (k : ℕ) → P g → ((j : ℕ) (o : Operation) → j < k → slice_get order j ≡ Some o → P o.call)
     → P (greatest_from g (take k order))
 of_greatest P g order zero holds each = holds
@@ -84,7 +84,7 @@ point_is_a_call initial events (x ∷ rest) i o legal at =
         let t = traced events p among in
         (t.call, contains_at events t.called_at t.call t.at_call, (p, among, t.made.called), sym t.made.called)
 
--- effects of a linearization lie within the bars
+-- effects of a linearization are within the bars
 pub effects_are_in_bars : EffectsAreInBars
 effects_are_in_bars initial events order i o complete legal at = (called, below)
   where
@@ -112,7 +112,7 @@ effects_are_in_bars initial events order i o complete legal at = (called, below)
     below : point order i < o.ret
     below = of_greatest (λ n. n < o.ret) 0 order (i + 1) (let rises = (operation_within events o complete (listed o i at)).0 in omega arith) each
 
--- ---- rows stand in the order of time
+-- ---- rows are in the order of time
 
 -- ---- numbers rise
 
@@ -123,7 +123,7 @@ rows_rise rows other r among above =
     (grind (arith, nat_tests)) above in
     omega arith
 
--- rows of earlier tickets don't stand lower
+-- rows of earlier tickets aren't lower
 no_lower : (rows : List Row) (s t : ℕ) → s ≤ t → row_number rows (Ticket s) ≤ row_number rows (Ticket t)
 unfolding row_number
 no_lower rows s t no_later = fewer (λ a. stands_above a (Ticket s)) (λ a. stands_above a (Ticket t)) (λ a higher. grind (arith, nat_tests)) rows
@@ -136,7 +136,7 @@ in_enumerated xs i x at =
     let here = get_or-enumerate_from 0 xs i (i, x) within in
     (i, omega (arith, length-enumerate_from 0 xs), here ∙ ap₂ (λ n y. (n, y)) (zero-add i) (get_or_from_slice_get xs i x x at))
 
--- a drawn initial value is among the rows of initial values, where there are some
+-- a drawn initial value is among the rows of initial values, if there are any
 in_initial_rows : (initial drawn : List ℕ) (j v : ℕ) → 0 < length initial → slice_get drawn j ≡ Some v → Contains (initial_rows initial drawn) (Initial j v)
 in_initial_rows [] drawn j v some at = absurd (omega arith)
 in_initial_rows (front ∷ others) drawn j v some at =
@@ -145,7 +145,7 @@ in_initial_rows (front ∷ others) drawn j v some at =
     Contains-append_right (Head ∷ []) (own ++ rest) (Initial j v) (Contains-append_left own rest (Initial j v)
     (into_flat_map initial_row (enumerate_from 0 drawn) (j, v) (Initial j v) (in_enumerated drawn j v at) (contains_at (Initial j v ∷ []) 0 (Initial j v) refl)))
 
--- so is it among all rows
+-- so it is among all rows
 drawn_has_row : (history : HistoryView) (claimed : Claimed) (drawn : List Operation) (j v : ℕ) → slice_get (drawn_initial history claimed drawn) j ≡ Some v
     → Contains (rows_of history claimed drawn) (Initial j v)
 unfolding rows_of
@@ -169,7 +169,7 @@ initial_values_have_rows history claimed drawn v among matters =
     let kept = passes_filter (is_drawn_initial claimed drawn) history.initial v (matters_is_drawn claimed drawn v matters) among in
     (kept.0, drawn_has_row history claimed drawn kept.0 v (slice_get-get_or values kept.0 v kept.1 ∙ ap Some kept.2))
 
--- a row that stands with an event that has its own is one of all
+-- the row of an event that has its own is one of all rows
 module _ (drawn order : List Operation) (e : Event) (r : Row) (own : has_row drawn e.ticket ≡ true) (here : Contains (event_rows order e) r) where
   in_rows_after : (count last : ℕ) (events : List Event) → Contains events e → Contains (rows_after drawn order count last events) r
   in_rows_after count last [] among = absurd (not_in_none e among)
@@ -195,7 +195,7 @@ with_event history claimed drawn e r among own here =
     (rows_after drawn (order_of claimed) 0 0 history.events) r
     (in_rows_after drawn (order_of claimed) e r own here 0 0 history.events among)
 
--- the event of an operation that is drawn has its own row
+-- the event of a drawn operation has its own row
 has_own : (drawn : List Operation) (o : Operation) (ticket : ℕ) → Contains drawn o → (o.call ≡ ticket) ⊎ (o.ret ≡ ticket) → has_row drawn ticket ≡ true
 has_own drawn o ticket among at = any_of (λ o. nat_eq o.call ticket || nat_eq o.ret ticket) drawn o among (grind (arith, nat_tests, at))
 
@@ -239,7 +239,7 @@ counted_after drawn order count last (e ∷ later) =
     ))
     (λ hidden. let after = counted_after drawn order (count + 1) e.ticket later in omega arith)
 
--- rows of initial values stand for no events
+-- rows of initial values count no events
 no_events_first : (initial drawn : List ℕ) → sum_by events_in (initial_rows initial drawn) ≡ 0
 no_events_first [] drawn = refl
 no_events_first (front ∷ others) drawn =
@@ -304,7 +304,7 @@ values_are_counted history claimed drawn =
     let after = no_values_after drawn (order_of claimed) 0 0 history.events in
     omega (arith, sum_by-append values_in (initial_rows history.initial initial) (rows_after drawn (order_of claimed) 0 0 history.events))
 
--- an operation has its row after the event at its point
+-- the row of an operation's effect is after the event at its point
 after_its_event : (order : List Operation) (i : ℕ) (o : Operation) (e : Event) → slice_get order i ≡ Some o → e.ticket ≡ point order i
     → Contains (event_rows order e) (Effect o (i + 1) (point order i))
 unfolding effect_rows
@@ -320,7 +320,7 @@ effects_have_rows history order i o complete legal at =
     with_event history (Yes order) (operations_of history.events) call.0 (Effect o (i + 1) (point order i)) call.1
     (has_own (operations_of history.events) call.2.0 call.0.ticket call.2.1 (inl call.2.2)) (after_its_event order i o call.0 at call.3)
 
--- ---- what follows
+-- ---- consequences
 
 pub initial_rows_are_first : InitialRowsAreFirst
 initial_rows_are_first history claimed drawn j later v w ticket at less =

@@ -1,4 +1,5 @@
--- Bands beside the lanes of a `NO`: when a value definitely was in the queue, or was not, and the time that contradicts it.
+-- The bands beside the lanes of a `NO`: when a value was definitely in the queue, or definitely not, and the time
+-- that contradicts it.
 use Rattle.std.specs.Prelude.{ℕ, ◌+◌, ◌&&◌, ◌||◌, not, is_some, if◌then◌else◌, Bool, nat_lt, nat_le}
 use Rattle.std.specs.Prelude.{Option, Some, None, option_and_then, slice_get, List, [], ◌∷◌, ◌++◌, codes}
 use Rattle.std.specs.List.{concat}
@@ -15,7 +16,7 @@ use Rattle.drawing.specs.declared.bands.Band.{Band}
 use Rattle.drawing.specs.declared.bands.Head.{Head}
 use Rattle.drawing.specs.declared.bands.Head.TheVariants.{SurelyIn, NotIn, Dequeued, InAndOut, SaidEmpty, InOrOut}
 
--- the value of an operation, or 0 where it has none
+-- the value of an operation, or 0 if it has none
 abbrev pub value_of : OpKind → ℕ
 value_of (kind.Enq v) = v
 value_of (kind.Deq v) = v
@@ -26,40 +27,42 @@ value_of kind.Empty = 0
 abbrev pub line_value : ClaimLine → ℕ
 line_value line = value_of (line_kind line)
 
--- the value definitely is in the queue from the return of its enqueue, or from the top on where it was there first, to the call of its
--- dequeue, or to the bottom where it has none
+-- the value is definitely in the queue from the return of its enqueue, or from the top if it is an initial value, to
+-- the call of its dequeue, or to the bottom if it has none
 abbrev pub sure_until : ClaimLine → Option ℕ → Band
 sure_until enq last = record { head = SurelyIn (line_value enq); first = line_return enq; last = last }
 
--- the time from one event to another; from the top on, where the first is none
+-- the time from one event to another; from the top if there is no first one
 abbrev pub time_of : Head → Option ℕ → Option ℕ → Band
 time_of head first last = record { head = head; first = first; last = last }
 
--- the call of an enqueue that was taken
+-- the call of a successful enqueue
 abbrev pub call_if_taken : ClaimLine → OpKind → Option ℕ
 call_if_taken line (kind.Enq v) = line_call line
 call_if_taken line _ = None
 
--- the same of the first of these lines
+-- the call of a successful enqueue in the first of these lines
 abbrev pub enqueue_call : List ClaimLine → Option ℕ
 enqueue_call [] = None
 enqueue_call (enq ∷ rest) = call_if_taken enq (line_kind enq)
 
--- a value for each enqueue of a cover, which its dequeue follows if it has one
+-- a band for the value of each enqueue of a cover, whose dequeue follows if there is one
 abbrev pub cover_bands : List ClaimLine → List Band
 cover_bands [] = []
 cover_bands (enq ∷ []) = sure_until enq None ∷ []
 cover_bands (enq ∷ deq ∷ rest) = sure_until enq (line_call deq) ∷ cover_bands rest
 
--- when a, whose enqueue is first, definitely was in the queue, and when b of the lines after it went in and out
+-- the time in which a, whose enqueue is first, was definitely in the queue, and the time in which b of the lines
+-- after it was enqueued and dequeued
 abbrev pub order_bands : ClaimLine → List ClaimLine → List Band
 order_bands enq_a (enq_b ∷ deq_b ∷ rest) =
     sure_until enq_a (option_and_then line_call (slice_get rest 0)) ∷ time_of (InAndOut (line_value enq_b)) (line_call enq_b) (line_return deq_b) ∷ []
 order_bands enq_a _ = []
 
--- the bands of a `NO` of this kind. Of a value that was not there: when it definitely was not in the queue, before any call of its enqueue,
--- and when it was dequeued; of one that was dequeued twice: a column for its words, with no band; of an empty answer: when the values of
--- the cover definitely were in the queue, and when it was said to be empty
+-- the bands of a `NO` of this kind. For a phantom dequeue: when its value was definitely not in the queue, before any
+-- call to enqueue it, and when it was dequeued. For a value dequeued twice: a column for its words, without a band.
+-- For order violations: see `order_bands`. For an empty dequeue: when the values of the cover were definitely in the
+-- queue, and the time of the dequeue
 abbrev pub bands_by : List ClaimLine → ViolationKind → List Band
 bands_by [] kind = []
 bands_by (deq ∷ rest) VFresh =
@@ -82,8 +85,8 @@ head_text (InAndOut v) = concat (value_text v ∷ codes " in and out" ∷ [])
 head_text SaidEmpty = codes "empty"
 head_text (InOrOut v) = concat (value_text v ∷ codes " in or out" ∷ [])
 
--- the word for a band: for a value that definitely is in the queue, for one that definitely isn't, and for the time beside them; nothing
--- where there is no band
+-- the form of a band: for a value definitely in the queue, for one definitely not in it, and for the time beside
+-- them; a column without a band has none
 abbrev pub form_words : Head → List ℕ → List ℕ → List ℕ → List ℕ
 form_words (SurelyIn v) sure absent time = sure
 form_words (NotIn v) sure absent time = absent
@@ -92,15 +95,15 @@ form_words (InAndOut v) sure absent time = time
 form_words SaidEmpty sure absent time = time
 form_words (InOrOut v) sure absent time = []
 
--- the time of a gap: that just after a ticket, or 0 for that before all tickets
+-- the time of a gap: of the one just after a ticket, or 0 for the one before all tickets
 abbrev pub gap_time : Option ℕ → ℕ
 gap_time None = 0
 gap_time (Some ticket) = ticket + 1
 
--- the band holds this gap: it has begun, and goes on
+-- the band holds this gap: it has begun, and hasn't ended
 abbrev pub holds : Band → Option ℕ → Bool
 holds band gap = nat_le (gap_time band.first) (gap_time gap) && (not (is_some band.last) || nat_lt (gap_time gap) (gap_time band.last))
 
--- the form of a band in a row that stands for this gap; nothing where the band doesn't hold it
+-- the form of a band in a row at this gap; nothing if the band doesn't hold the gap
 abbrev pub form_at : Band → Option ℕ → List ℕ
 form_at band gap = if holds band gap then form_words band.head (codes "###") (codes "xxx") (codes ":::") else []

@@ -1,4 +1,4 @@
--- What a claim lists: operations, and of a `NO` also values that the queue holds first.
+-- The lines of a claim: operations, and for a `NO` also initial values.
 use Rattle.std.specs.Prelude.{ℕ, Option, Some, None, List, [], map, length}
 use Rattle.history_merge.specs.declared.operation.Operation.{Operation}
 use Rattle.history_merge.specs.declared.operation.OpKind.{OpKind}
@@ -8,7 +8,7 @@ use Rattle.claims.specs.declared.claimed.ClaimLine.TheVariants.{Op, Initial}
 use Rattle.claims.specs.declared.claimed.Claimed.{Claimed}
 use Rattle.claims.specs.declared.claimed.Claimed.TheVariants.{Yes, No}
 
--- how many lines a claim has
+-- the number of lines of a claim
 abbrev pub count_of_lines : Claimed → ℕ
 count_of_lines (Yes order) = length order
 count_of_lines (No kind lines) = length lines
@@ -28,7 +28,7 @@ abbrev pub shown_by : Claimed → List ClaimLine
 shown_by (Yes order) = []
 shown_by (No kind lines) = lines
 
--- what a line says that was done: an initial value stands where its enqueue would
+-- the kind of a line's operation; an initial value counts as enqueued
 abbrev pub line_kind : ClaimLine → OpKind
 line_kind (Op o) = o.kind
 line_kind (Initial v) = Enq v

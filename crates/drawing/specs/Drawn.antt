@@ -1,5 +1,5 @@
--- Which operations of a history are drawn: all of them, or of a `NO` those that it lists, those that overlap one of these, and those near by.
--- Which initial values are: those of the claim and of these operations.
+-- The drawn operations of a history: all of them, or for a `NO` those that it lists, those that overlap one of these,
+-- and those near by. The drawn initial values: those of the claim and of these operations.
 use Rattle.std.specs.Prelude.{ℕ, ◌-◌, ◌&&◌, ◌||◌, not, nat_lt, nat_le, nat_eq, Bool, false, Option, Some, None, List, [], ◌∷◌, filter, flat_map, map, count_by}
 use Rattle.std.specs.List.{list_any}
 use Rattle.event_records.specs.declared.event.Event.{Event}
@@ -15,15 +15,15 @@ use Rattle.claims.specs.declared.claimed.Claimed.TheVariants.{Yes, No}
 use Rattle.drawing.specs.Claim.{shown_by}
 use Rattle.drawing.specs.declared.drawn.Standing.{Standing}
 
--- how many events come before a ticket
+-- the number of events before a ticket
 abbrev pub events_before : List Event → ℕ → ℕ
 events_before events ticket = count_by (λ e. nat_lt e.ticket ticket) events
 
--- where an operation stands among the events: how many come before its call, and before its return
+-- the place of an operation among the events: the numbers of events before its call and before its return
 abbrev pub standing_of : List Event → Operation → Standing
 standing_of events o = record { call = events_before events o.call; ret = events_before events o.ret }
 
--- at most n events lie from the return of each of two operations to the call of the other: none, if they overlap
+-- at most n events come between the return of one operation and the call of the other: none, if they overlap
 abbrev pub stand_near : ℕ → Standing → Standing → Bool
 stand_near n x y = nat_le (y.call - n) x.ret && nat_le (x.call - n) y.ret
 
@@ -72,7 +72,7 @@ abbrev pub overlaps_line : Operation → ClaimLine → Bool
 overlaps_line x (Op y) = nat_le x.call y.ret && nat_le y.call x.ret
 overlaps_line x (Initial v) = false
 
--- an operation is away from those that show a `NO`: it overlaps none of them
+-- an operation is away from those that show a `NO`, if it overlaps none of them
 abbrev pub is_away : Claimed → Operation → Bool
 is_away (Yes order) o = false
 is_away (No kind lines) o = not (list_any (overlaps_line o) lines)

@@ -1,4 +1,4 @@
--- What holds of pictures.
+-- Laws of pictures.
 use Rattle.std.specs.Prelude.{◌≡◌, ℕ, ◌+◌, ◌^◌, ◌<◌, ◌≤◌, ◌↔◌, ◌⊎◌, true, false, List, Option, Some, Contains, length, slice_get, sum_by}
 use Rattle.event_records.specs.declared.event.Event.{Event}
 use Rattle.event_records.specs.declared.limits.TheConstants.{MAX_INITIAL}
@@ -24,26 +24,26 @@ use Rattle.drawing.specs.Terminal.{lane_column}
 use Rattle.drawing.specs.declared.scene.Row.{Row}
 use Rattle.drawing.specs.declared.scene.Row.TheVariants as row
 
--- ---- what is drawn
+-- ---- drawn operations
 
--- the lines list no other operations
+-- each listed operation is one of these
 abbrev pub AreOperationsOf : List Operation → List ClaimLine → Type 0
 AreOperationsOf operations lines = (o : Operation) → Contains lines (Op o) → Contains operations o
 
--- an operation that overlaps one of a `NO` is drawn, whatever the distance
+-- an operation that overlaps one of a `NO` is drawn, at whatever distance
 abbrev pub OverlappingAreDrawn : Type 0
 OverlappingAreDrawn =
     (history : HistoryView) (kind : ViolationKind) (lines : List ClaimLine) (around : Option ℕ) (x y : Operation) → Contains (operations_of history.events) x
     → Contains lines (Op y) → ¬ (Precedes x y) → ¬ (Precedes y x) → Contains (drawn_operations history (No kind lines) around) x
 
--- at the distance 0 no others are
+-- at distance 0 no other operation is drawn
 abbrev pub NoOthersAreDrawn : Type 0
 NoOthersAreDrawn =
     (history : HistoryView) (kind : ViolationKind) (lines : List ClaimLine) (x : Operation) → AreOperationsOf (operations_of history.events) lines
     → Contains (drawn_operations history (No kind lines) (Some 0)) x
     → (y : Operation) × Contains lines (Op y) × (¬ (Precedes x y)) × (¬ (Precedes y x))
 
--- those of a `NO` are drawn themselves
+-- the operations of a `NO` are drawn themselves
 abbrev pub LinesAreDrawn : Type 0
 LinesAreDrawn =
     (history : HistoryView) (kind : ViolationKind) (lines : List ClaimLine) (around : Option ℕ) → IsCompleteHistory history.events
@@ -63,25 +63,25 @@ LanesAreApart =
 abbrev pub NoCallsAreAdded : Option ℕ → List Operation → Type 0
 NoCallsAreAdded added_from operations = (o : Operation) → Contains operations o → is_added added_from o.call ≡ false
 
--- the operation has not returned before this ticket, or never did
+-- the operation hasn't returned before this ticket, or never returned
 abbrev pub LastsTo : Option ℕ → ℕ → Operation → Type 0
 LastsTo added_from ticket o = (ticket ≤ o.ret) ⊎ (is_pending added_from o ≡ true)
 
--- from its call to its return, or to the end if it is pending, each operation that is drawn is what stands in its thread's lane
+-- from its call to its return, or to the end if it is pending, each drawn operation is in its thread's lane
 abbrev pub BarsAreOfOperations : Type 0
 BarsAreOfOperations =
     (history : HistoryView) (claimed : Claimed) (around added_from : Option ℕ) (o : Operation) (ticket : ℕ) → IsCompleteHistory history.events
     → NoCallsAreAdded added_from (operations_of history.events) → Contains (drawn_operations history claimed around) o → o.call ≤ ticket
     → LastsTo added_from ticket o → under_way added_from (drawn_operations history claimed around) o.thread ticket ≡ Some o
 
--- the operation is of this thread, and the ticket lies from its call to its return, or to the end if it is pending
+-- the operation is of this thread, and the ticket is from its call to its return, or to the end if it is pending
 pub record HasBarAt (added_from : Option ℕ) (operations : List Operation) (thread ticket : ℕ) (o : Operation) : Type 0 where
   pub among : Contains operations o
   pub own : o.thread ≡ thread
   pub called : o.call ≤ ticket
   pub lasts : LastsTo added_from ticket o
 
--- nothing else stands in a lane
+-- nothing else is in a lane
 abbrev pub NoOtherBars : Type 0
 NoOtherBars =
     (added_from : Option ℕ) (operations : List Operation) (thread ticket : ℕ) (o : Operation) → under_way added_from operations thread ticket ≡ Some o
@@ -115,42 +115,42 @@ InitialValuesHaveRows =
     (history : HistoryView) (claimed : Claimed) (drawn : List Operation) (v : ℕ) → Contains history.initial v → Matters claimed drawn v
     → (j : ℕ) × Contains (rows_of history claimed drawn) (row.Initial j v)
 
--- how many initial values a row stands for
+-- the number of initial values that a row stands for
 abbrev pub values_in : Row → ℕ
 values_in (row.Initial place v) = 1
 values_in (row.ValuesLeftOut count drawn) = count
 values_in r = 0
 
--- no initial value is lost: each has its row, or is counted in that of values that are left out
+-- no initial value is lost: each has its row, or is counted among those left out
 abbrev pub ValuesAreCounted : Type 0
 ValuesAreCounted =
     (history : HistoryView) (claimed : Claimed) (drawn : List Operation) → sum_by values_in (rows_of history claimed drawn) ≡ length history.initial
 
--- the call and the return of each operation that is drawn have their rows
+-- the call and the return of each drawn operation have their rows
 abbrev pub OperationsHaveRows : Type 0
 OperationsHaveRows =
     (history : HistoryView) (claimed : Claimed) (drawn : List Operation) (o : Operation) → Contains (operations_of history.events) o → Contains drawn o
     → Contains (rows_of history claimed drawn) (row.Ticket o.call) × Contains (rows_of history claimed drawn) (row.Ticket o.ret)
 
--- how many events a row stands for
+-- the number of events that a row stands for
 abbrev pub events_in : Row → ℕ
 events_in (row.Ticket ticket) = 1
 events_in (row.LeftOut count last) = count
 events_in r = 0
 
--- no event is lost: each has its row, or is counted in that of events that are left out
+-- no event is lost: each has its row, or is counted among those left out
 abbrev pub EventsAreCounted : Type 0
 EventsAreCounted =
     (history : HistoryView) (claimed : Claimed) (drawn : List Operation) → sum_by events_in (rows_of history claimed drawn) ≡ length history.events
 
--- each operation of a linearization has its row, where it takes effect
+-- each operation of a linearization has the row of its effect
 abbrev pub EffectsHaveRows : Type 0
 EffectsHaveRows =
     (history : HistoryView) (order : List Operation) (i : ℕ) (o : Operation) → IsCompleteHistory history.events
     → IsLegalOrder history.initial (operations_of history.events) order → slice_get order i ≡ Some o
     → Contains (rows_of history (Yes order) (operations_of history.events)) (row.Effect o (i + 1) (point order i))
 
--- the rows of initial values stand one below another, and above those of all events
+-- the rows of initial values are one below another, and above those of all events
 abbrev pub InitialRowsAreFirst : Type 0
 InitialRowsAreFirst =
     (history : HistoryView) (claimed : Claimed) (drawn : List Operation) (j later v w ticket : ℕ)
@@ -158,13 +158,13 @@ InitialRowsAreFirst =
     → (row_number (rows_of history claimed drawn) (row.Initial j v) < row_number (rows_of history claimed drawn) (row.Initial later w))
     × (row_number (rows_of history claimed drawn) (row.Initial j v) < row_number (rows_of history claimed drawn) (row.Ticket ticket))
 
--- the return of an operation that is drawn stands above a call if and only if its operation precedes the other
+-- the return of a drawn operation is above a call if and only if its operation precedes the other
 abbrev pub RowsTellPrecedence : Type 0
 RowsTellPrecedence =
     (history : HistoryView) (claimed : Claimed) (drawn : List Operation) (x y : Operation) → Contains (operations_of history.events) x → Contains drawn x
     → Precedes x y ↔ (row_number (rows_of history claimed drawn) (row.Ticket x.ret) < row_number (rows_of history claimed drawn) (row.Ticket y.call))
 
--- an operation of a linearization takes effect in a row between those of its call and of its return
+-- an operation of a linearization takes effect in a row between those of its call and its return
 abbrev pub EffectRowsAreInBars : Type 0
 EffectRowsAreInBars =
     (history : HistoryView) (order : List Operation) (i : ℕ) (o : Operation) → IsCompleteHistory history.events
@@ -173,7 +173,7 @@ EffectRowsAreInBars =
     (row_number rows (row.Ticket o.call) < row_number rows (row.Effect o (i + 1) (point order i)))
     × (row_number rows (row.Effect o (i + 1) (point order i)) < row_number rows (row.Ticket o.ret))
 
--- and these rows rise in its order
+-- the rows of the effects rise in the order of the linearization
 abbrev pub EffectRowsRise : Type 0
 EffectRowsRise =
     (history : HistoryView) (order : List Operation) (i j : ℕ) (o p : Operation) → IsCompleteHistory history.events

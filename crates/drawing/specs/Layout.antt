@@ -1,4 +1,4 @@
--- What stands in a picture: labels, threads, tickets, the operations in rows, numbers and points of effect.
+-- The content of a picture: labels, threads, tickets, the operations in rows, numbers and points of effect.
 use Rattle.std.specs.Prelude.{ℕ, ◌+◌, ◌-◌, ◌++◌, codes, max, ◌&&◌, ◌||◌, if◌then◌else◌, nat_le, nat_eq, Bool, false}
 use Rattle.std.specs.Prelude.{Option, Some, None, List, [], filter, find, map}
 use Rattle.std.specs.Prelude.{length, take, decimal, replicate, fold}
@@ -18,7 +18,7 @@ use Rattle.drawing.specs.Names.{value_text, name_of, initial_text}
 
 -- ---- words
 
--- how many digits a number has
+-- the number of digits of a number
 abbrev pub digits : ℕ → ℕ
 digits n = length (decimal n)
 
@@ -33,26 +33,26 @@ kind_word (kind.Deq v) = codes "deq"
 kind_word (kind.Not v) = codes "not"
 kind_word kind.Empty = codes "empty"
 
--- a blank and the value of an operation, in full, or by its name; nothing where it has none
+-- a blank and the value of an operation, in full or by its name; nothing if it has none
 abbrev pub value_after : Bool → OpKind → List ℕ
 value_after full (kind.Enq v) = codes " " ++ value_in full v
 value_after full (kind.Deq v) = codes " " ++ value_in full v
 value_after full (kind.Not v) = codes " " ++ value_in full v
 value_after full kind.Empty = []
 
--- what an operation did, and its value in full, or by its name
+-- a kind of operation and its value, in full or by its name
 abbrev pub told : Bool → OpKind → List ℕ
 told full kind = kind_word kind ++ value_after full kind
 
--- what an operation did, and its value by its name
+-- the label of an operation: its kind, and its value by its name
 abbrev pub label : OpKind → List ℕ
 label kind = told false kind
 
--- words after a number at the right of a column of this width; blanks, where there is no number
+-- words after a number that is right-aligned in a column of this width, or after blanks if there is no number
 abbrev pub numbered : ℕ → List ℕ → List ℕ → List ℕ
 numbered wide number words = replicate (wide - length number) 32 ++ (number ++ (codes " " ++ words))
 
--- an initial value by its name
+-- the label of an initial value, by its name
 abbrev pub initial_label : ℕ → List ℕ
 initial_label v = initial_text (name_of v)
 
@@ -75,7 +75,7 @@ label_width initial operations =
 
 -- ---- operations in rows
 
--- the operation is of this thread, has been called by this ticket and has not returned before it, or never did
+-- the operation is of this thread, was called by this ticket, and hasn't returned before it, or never returned
 abbrev pub is_under_way : Option ℕ → ℕ → ℕ → Operation → Bool
 is_under_way added_from thread ticket o = nat_eq o.thread thread && (nat_le o.call ticket && (nat_le ticket o.ret || is_pending added_from o))
 
@@ -89,21 +89,22 @@ called_at operations ticket = find (λ o. nat_eq o.call ticket) operations
 
 -- ---- the claim
 
--- a line stands in a row: an operation in that of its call, an initial value in its own; operations differ in their calls
+-- a line belongs to a row: an operation to the row of its call, an initial value to its own; the calls of operations
+-- differ
 abbrev pub stands_in : Row → ClaimLine → Bool
 stands_in (row.Ticket ticket) (Op listed) = nat_eq listed.call ticket
 stands_in (row.Initial place v) (Initial listed) = nat_eq listed v
 stands_in r line = false
 
--- the place of the line in a row among these lines, from 0, where there is one
+-- the place of a row's line among these lines, from 0, if there is one
 abbrev pub place_in : List ClaimLine → Row → Option ℕ
 place_in lines r = position (stands_in r) lines
 
--- its place in a claim
+-- the place of a row's line in a claim
 abbrev pub place_of : Claimed → Row → Option ℕ
 place_of claimed r = place_in (lines_in claimed) r
 
--- the number of a place, from 1, in its digits
+-- the digits of the number of a place, from 1
 abbrev pub number_at : Option ℕ → List ℕ
 number_at None = []
 number_at (Some place) = decimal (place + 1)
@@ -112,6 +113,6 @@ number_at (Some place) = decimal (place + 1)
 abbrev pub greatest_call : List Operation → ℕ
 greatest_call operations = fold (λ greatest o. max greatest o.call) 0 operations
 
--- the operation at place i of an order takes effect just after this ticket: the greatest call of those up to it
+-- the ticket just before the effect of the operation at place i of an order: the greatest call of those up to it
 abbrev pub point : List Operation → ℕ → ℕ
 point order i = greatest_call (take (i + 1) order)

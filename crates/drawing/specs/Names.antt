@@ -1,10 +1,11 @@
--- Values by their names: a recorder names value n of thread t by t * 2^32 + n, and initial values as if thread 64 enqueued them.
+-- Names of values: a recorder gives value n of thread t the name t * 2^32 + n, and initial values the names of a
+-- thread 64.
 use Rattle.std.specs.Prelude.{ℕ, ◌/◌, ◌%◌, ◌==◌, nat_lt, if◌then◌else◌, List, ◌++◌, codes, decimal}
 use Rattle.event_records.specs.declared.limits.TheConstants.{MAX_THREADS, NAMES_OF_A_THREAD}
 use Rattle.drawing.specs.declared.names.Name.{Name}
 use Rattle.drawing.specs.declared.names.Name.TheVariants.{OfThread, OfInitial, Plain}
 
--- the name by its owner: that of a thread from 1 on, that of an initial value, or none. Values of thread 0 are as short as they are
+-- a name by its owner: a thread from 1 on, the initial values, or none; values of thread 0 are short without a name
 abbrev pub name_by : ℕ → ℕ → ℕ → Name
 name_by owner number v =
     if owner == 0 then Plain v else (if nat_lt owner MAX_THREADS then OfThread owner number else (if owner == MAX_THREADS then OfInitial number else Plain v))
@@ -23,7 +24,7 @@ name_text (Plain v) = decimal v
 abbrev pub value_text : ℕ → List ℕ
 value_text v = name_text (name_of v)
 
--- an initial value as it is drawn
+-- the name of an initial value as it is drawn
 abbrev pub initial_text : Name → List ℕ
 initial_text (OfInitial number) = name_text (OfInitial number)
 initial_text name = codes "init " ++ name_text name

@@ -1,4 +1,4 @@
--- Which operations of a picture never returned: the returns from some ticket on were added by a completion.
+-- The operations of a picture that never returned: the returns from some ticket on were added by a completion.
 use Rattle.std.specs.Prelude.{ℕ, nat_le, Bool, false, Option, Some, None}
 use Rattle.history_merge.specs.declared.operation.Operation.{Operation}
 

@@ -1,4 +1,4 @@
--- How to read a picture: its signs, and what each means. Characters and pixels draw them in their own way.
+-- The legend of a picture: its signs with their meanings. Characters and pixels draw the signs in their own ways.
 use Rattle.std.specs.Prelude.{ℕ, if◌then◌else◌, List, [], ◌∷◌, ◌++◌, codes}
 use Rattle.std.specs.List.{list_any}
 use Rattle.claims.specs.declared.claimed.Claimed.{Claimed}
@@ -10,7 +10,7 @@ use Rattle.drawing.specs.Drawn.{is_away}
 use Rattle.drawing.specs.Pending.{is_pending}
 use Rattle.drawing.specs.Scene.{SceneView}
 
--- the sign of initial values, where there are some, and that of numbers
+-- the sign of initial values, if there are any, and that of numbers
 abbrev pub number_signs : Claimed → List ℕ → List Sign
 number_signs (Yes order) [] = InOrder ∷ []
 number_signs (Yes order) (v ∷ initial) = First ∷ InOrder ∷ []
@@ -35,7 +35,7 @@ operation_signs scene =
 unfoldable pub signs_of : SceneView → List Sign
 signs_of scene = number_signs scene.claimed scene.initial ++ (band_signs scene.claimed ++ operation_signs scene)
 
--- what a sign means
+-- the meaning of a sign
 abbrev pub meaning : Sign → List ℕ
 meaning First = codes "a value that was in the queue first, the front one on top"
 meaning InOrder = codes "number 1 in the order, where it takes effect"

@@ -1,4 +1,4 @@
-//! Bands beside the lanes of a `NO`.
+//! The bands beside the lanes of a `NO`.
 ghost use Rattle.std.specs.Prelude.{◌≡◌, ◌++◌, ◌∷◌, ◌+◌, ◌≤◌, [], OnOk, IfOk, length, vec_len};
 ghost use Rattle.drawing.specs.Claim.{count_of_lines, line_call, line_return};
 ghost use Rattle.drawing.specs.Names.{value_text};
@@ -13,20 +13,20 @@ use history_merge::OpKind;
 use std::alloc::{AllocError, Global};
 use claims::{ClaimLine, Claimed, ViolationKind};
 
-/// What stands above a band.
+/// The head of a band, shown above it.
 #[derive(Clone, Copy)]
 pub enum Head {
-    /// This value definitely was in the queue.
+    /// This value was definitely in the queue.
     SurelyIn(u64),
-    /// This value definitely was not in the queue.
+    /// This value was definitely not in the queue.
     NotIn(u64),
-    /// The time in which this value was dequeued.
+    /// This value was dequeued within the band.
     Dequeued(u64),
-    /// The time in which this value went in and out.
+    /// This value was enqueued and dequeued within the band.
     InAndOut(u64),
-    /// The time in which the queue was said to be empty.
+    /// A dequeue found the queue empty within the band.
     SaidEmpty,
-    /// A column for the words `in` and `out` of this value, with no band.
+    /// A column without a band, for the words `in` and `out` of this value.
     InOrOut(u64),
 }
 
@@ -34,13 +34,13 @@ pub enum Head {
 #[derive(Clone, Copy)]
 pub struct Band {
     pub head: Head,
-    /// The ticket from which it goes, or none where it goes from the top.
+    /// The ticket at which the band begins, or none if it begins at the top.
     pub first: Option<u64>,
-    /// The ticket to which it goes, or none where it goes to the bottom.
+    /// The ticket at which the band ends, or none if it ends at the bottom.
     pub last: Option<u64>,
 }
 
-/// The value of a line.
+/// Returns the value of a line.
 pub(crate) fn line_value(line: ClaimLine) -> u64
     ensures { result ≡ line_value line }
 {
@@ -131,7 +131,7 @@ fn push_bands(bands: &mut Vec<Band>, kind: ViolationKind, lines: &[ClaimLine]) -
     }
 }
 
-/// The bands of a claim, left to right.
+/// Returns the bands of a claim, left to right.
 pub(crate) fn bands_of(alloc: Global, claimed: &Claimed) -> Result<Vec<Band>, AllocError>
     ensures bands { IfOk result (λ bands. bands.items ≡ bands_of claimed.now) }
     ensures few { IfOk result (λ bands. vec_len bands ≤ count_of_lines claimed.now + 2) }
@@ -143,7 +143,7 @@ pub(crate) fn bands_of(alloc: Global, claimed: &Claimed) -> Result<Vec<Band>, Al
     Ok(bands)
 }
 
-/// Adds a value, and words after it.
+/// Appends a value, and words after it.
 pub(crate) fn push_named(text: &mut Vec<u8>, value: u64, words: &[u8]) -> Added
     ensures { OnOk result (text.new.items ≡ text.old.items ++ concat (value_text value ∷ words.now ∷ [])) }
 {
@@ -151,7 +151,7 @@ pub(crate) fn push_named(text: &mut Vec<u8>, value: u64, words: &[u8]) -> Added
     text.extend_from_slice(words)
 }
 
-/// The words above a band.
+/// Returns the words above a band.
 pub fn head_words(alloc: Global, head: Head) -> Result<Vec<u8>, AllocError>
     ensures { IfOk result (λ words. words.items ≡ head_text head) }
 {
@@ -167,8 +167,8 @@ pub fn head_words(alloc: Global, head: Head) -> Result<Vec<u8>, AllocError>
     Ok(words)
 }
 
-/// The word for a band: this for a value that definitely is in the queue, that for one that definitely isn't, and the last for the time
-/// beside them. Nothing where there is no band.
+/// Returns the form of a band: `sure` for a value definitely in the queue, `absent` for one definitely not in it,
+/// `time` for the time beside them. A column without a band has none.
 pub fn form_words(
     head: Head,
     sure: &'static [u8],
@@ -185,7 +185,7 @@ pub fn form_words(
     }
 }
 
-/// The time of a gap: 0 for that before all tickets.
+/// Returns the time of a gap; 0 for the gap before all tickets.
 pub(crate) fn gap_time(gap: Option<u64>) -> u128
     ensures { result ≡ gap_time gap }
 {
@@ -195,7 +195,7 @@ pub(crate) fn gap_time(gap: Option<u64>) -> u128
     }
 }
 
-/// The form of a band in a row of characters that stands for this gap; nothing where the band doesn't hold it.
+/// Returns the form of a band in a row of characters at this gap; nothing if the band doesn't hold the gap.
 pub(crate) fn form_at(band: Band, gap: Option<u64>) -> &'static [u8]
     ensures { result.now ≡ form_at band gap }
 {

@@ -18,12 +18,12 @@ pub(crate) const YES_CAPTION: &[u8] =
     b"The numbers give one order in which the operations can have taken\n\
 effect. They rise from top to bottom, and each stands within its bar.\n";
 
-/// The first lines of the caption of an empty answer.
+/// The first lines of the caption of an empty dequeue.
 pub(crate) const WITNESS_WORDS: &[u8] =
     b"A dequeue found the queue empty (1), but at each moment of it\n\
 some value surely was in the queue:\n";
 
-/// What a picture shows, in a line.
+/// Returns the headline of a picture.
 pub fn headline(claimed: &Claimed) -> &'static [u8]
     ensures { result.now ≡ headline claimed.now }
 {
@@ -183,7 +183,8 @@ fn witness_words() -> &'static [u8]
     WITNESS_WORDS
 }
 
-/// Adds what a claim says, in sentences, each line with its line feed. Returns from `added_from` on were added by a completion.
+/// Appends a claim in sentences, each line with its line feed. Returns from `added_from` on were added by a
+/// completion.
 #[tactic(auto, using(crate::proofs::Loops::covers), unfolding(crate::specs::Captions::caption))]
 pub fn push_caption(text: &mut Vec<u8>, added_from: Option<u64>, claimed: &Claimed) -> Added
     requires { count_of_lines claimed.now ≤ MOST_DRAWN }

@@ -1,11 +1,11 @@
-//! What a claim lists.
+//! The lines of a claim.
 ghost use Rattle.std.specs.Prelude.{◌≡◌, ◌≤◌, length};
 ghost use Rattle.drawing.specs.Claim.{count_of_lines, order_of, shown_by, line_kind, line_call, line_return};
 
 use history_merge::{OpKind, Operation};
 use claims::{ClaimLine, Claimed};
 
-/// How many lines a claim has.
+/// Returns the number of lines of a claim.
 pub fn count_of_lines(claimed: &Claimed) -> usize
     ensures { result ≡ count_of_lines claimed.now }
 {
@@ -15,7 +15,7 @@ pub fn count_of_lines(claimed: &Claimed) -> usize
     }
 }
 
-/// The order of a `YES`.
+/// Returns the order of a `YES`.
 pub(crate) fn order_of(claimed: &Claimed) -> &[Operation]
     ensures { result.now ≡ order_of claimed.now }
 {
@@ -25,7 +25,7 @@ pub(crate) fn order_of(claimed: &Claimed) -> &[Operation]
     }
 }
 
-/// The lines that show a `NO`.
+/// Returns the lines that show a `NO`.
 pub fn shown_by(claimed: &Claimed) -> &[ClaimLine]
     ensures value { result.now ≡ shown_by claimed.now }
     ensures few { length result.now ≤ count_of_lines claimed.now }
@@ -36,7 +36,7 @@ pub fn shown_by(claimed: &Claimed) -> &[ClaimLine]
     }
 }
 
-/// What a line says that was done; an initial value counts as enqueued.
+/// Returns the kind of a line's operation. An initial value counts as enqueued.
 pub(crate) fn line_kind(line: ClaimLine) -> OpKind
     ensures { result ≡ line_kind line }
 {
@@ -46,7 +46,7 @@ pub(crate) fn line_kind(line: ClaimLine) -> OpKind
     }
 }
 
-/// The ticket of a line's call, none of an initial value.
+/// Returns the ticket of a line's call; none for an initial value.
 pub(crate) fn line_call(line: ClaimLine) -> Option<u64>
     ensures { result ≡ line_call line }
 {
@@ -56,7 +56,7 @@ pub(crate) fn line_call(line: ClaimLine) -> Option<u64>
     }
 }
 
-/// The ticket of a line's return, none of an initial value.
+/// Returns the ticket of a line's return; none for an initial value.
 pub(crate) fn line_return(line: ClaimLine) -> Option<u64>
     ensures { result ≡ line_return line }
 {

@@ -1,4 +1,4 @@
-//! Columns, and what they make room for.
+//! The columns of a picture, and their widths.
 ghost use Rattle.std.specs.Prelude.{◌≡◌, ◌+◌, ◌*◌, ◌≤◌, IfOk, length, vec_len};
 ghost use Rattle.drawing.specs.Layout.{digits, label, has_operations, threads_of, label_width};
 ghost use Rattle.drawing.specs.Terminal.{lane_place, columns_of};
@@ -15,41 +15,41 @@ use itoa::Buffer;
 use std::alloc::{AllocError, Global};
 use claims::Claimed;
 
-/// The most operations of a history and the most lines of a claim that are drawn.
+/// The maximum number of operations of a history, and of lines of a claim, that are drawn.
 pub const MOST_DRAWN: usize = 400;
 
-/// How many events stand under heads, before these are repeated.
+/// The number of rows after which the heads are repeated.
 pub(crate) const ROWS_UNDER_HEADS: usize = 40;
 
-/// The events of a history, in a list of their own.
+/// Returns the events of a history in a list of their own.
 pub(crate) fn events_of(alloc: Global, history: &History) -> Result<Vec<Event>, AllocError>
     ensures { IfOk result (λ events. events.items ≡ history.now.events) }
 {
     history.events().collect(alloc)
 }
 
-/// The most lanes that have room for a number: where there are more, a lane is one character wide.
+/// The maximum number of lanes that have room for a number. If there are more, a lane is one character wide.
 pub(crate) const WIDE_LANES: usize = 16;
 
-/// No lanes begin right of this column.
+/// An upper bound of the column at which lanes begin.
 pub(crate) const MAX_LANES: usize = 257 + 5 * (MOST_DRAWN + 2);
 
-/// Where the columns of a picture of characters stand, from 0.
+/// The columns of a picture of characters, counted from 0.
 #[derive(Clone, Copy)]
 pub struct Columns {
     /// The width of the column of tickets, which is the first.
     pub ticket: usize,
-    /// Where bands, or the order of a `YES`, stand.
+    /// The column of the bands, or of the order of a `YES`.
     pub beside: usize,
-    /// Where the lanes begin.
+    /// The column of the first lane.
     pub lanes: usize,
     /// The width of a lane.
     pub lane: usize,
-    /// Where the labels of calls stand.
+    /// The column of the labels of calls.
     pub label: usize,
 }
 
-/// How many digits a number has.
+/// Returns the number of digits of a number.
 pub fn digits(number: u64) -> u8
     ensures value { result ≡ digits number }
     ensures few { result ≤ 20 }
@@ -66,7 +66,7 @@ fn has_operations(operations: &[Operation], thread: u8) -> bool
         .any(|operation| operation.thread == thread)
 }
 
-/// The threads that have operations, the least first.
+/// Returns the threads that have operations, the least first.
 pub(crate) fn threads_of(alloc: Global, operations: &[Operation]) -> Result<Vec<u8>, AllocError>
     ensures threads { IfOk result (λ threads. threads.items ≡ threads_of operations.now) }
     ensures few { IfOk result (λ threads. vec_len threads ≤ MAX_THREADS) }
@@ -85,7 +85,7 @@ fn label_len(kind: OpKind) -> u8
     }
 }
 
-/// The length of the longest label of these initial values and operations, or of `empty`.
+/// Returns the length of the longest label of these initial values and operations, or of `empty`.
 pub fn label_width(initial: &[u64], operations: &[Operation]) -> u8
     ensures { result ≡ label_width initial.now operations.now }
 {
@@ -94,7 +94,8 @@ pub fn label_width(initial: &[u64], operations: &[Operation]) -> u8
     initial.chain(labels).fold(5, |widest, len| widest.max(len))
 }
 
-/// Where a lane of this width stands, right of this many: those of one character stand in groups of four.
+/// Returns the place of a lane of this width, to the right of `before` others. Lanes of one character are in groups
+/// of four.
 pub(crate) fn lane_place(lane: usize, before: usize) -> usize
     requires lane { lane ≤ 22 }
     requires few { before ≤ MAX_THREADS }
@@ -108,7 +109,7 @@ pub(crate) fn lane_place(lane: usize, before: usize) -> usize
     }
 }
 
-/// A scene, and its columns.
+/// Lays out a scene in columns.
 pub(crate) fn sheet_of<'a>(alloc: Global, scene: &'a Scene<'a>) -> Sheet<'a>
     requires { count_of_lines scene.now.claimed.now ≤ MOST_DRAWN }
     ensures columns { result.columns ≡ columns_of (scene_on scene.now) }

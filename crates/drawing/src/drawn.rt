@@ -1,4 +1,4 @@
-//! Which operations and initial values of a history are drawn.
+//! The operations and initial values of a history that are drawn.
 ghost use Rattle.std.specs.Prelude.{◌≡◌, IfOk, filter, map};
 ghost use Rattle.std.specs.List.{list_any};
 ghost use Rattle.event_records.specs.Turns.{TicketsRise};
@@ -12,7 +12,7 @@ use history_merge::{History, OpKind, Operation, Operations};
 use std::alloc::{AllocError, Global};
 use claims::{ClaimLine, Claimed};
 
-/// How many events come before the call of an operation, and before its return.
+/// The number of events before the call of an operation, and before its return.
 #[derive(Clone, Copy)]
 pub(crate) struct Standing {
     call: usize,
@@ -36,7 +36,7 @@ fn standing_of(events: &[Event], operation: Operation) -> Standing
     }
 }
 
-/// Where the operations of lines stand among the events.
+/// Returns the places of the lines' operations among the events.
 fn standings_in(
     alloc: Global,
     events: &[Event],
@@ -63,7 +63,7 @@ fn is_near_any(listed: &[Standing], standing: Standing, around: usize) -> bool
     })
 }
 
-/// The operations near one of those of the lines.
+/// Returns the operations near one of those of the lines.
 fn near_operations(
     alloc: Global,
     events: &[Event],
@@ -84,12 +84,14 @@ fn near_operations(
     Ok(near)
 }
 
-/// The operations of a history that a picture shows with a claim, in the order of their calls.
+/// Returns the operations of a history that a picture shows with a claim, in the order of their calls.
 ///
-/// All of them for a `YES`, and if `around` is `None`. Of a `NO` those that it lists, those that overlap one of these, and those with
-/// an event among the `around` ones before the call or after the return of one of these.
+/// For a `YES`, and if `around` is `None`, these are all operations. For a `NO` they are the operations that it
+/// lists, those that overlap one of these, and those with an event among the `around` ones before the call or after
+/// the return of one of these.
 ///
-/// Time O(n (log n + m)) for n operations and m lines; memory for the events. `AllocError` comes only where a growth was refused.
+/// Takes O(n (log n + m)) time for n operations and m lines, and memory for the events. The only error is out of
+/// memory.
 pub fn drawn_operations(
     alloc: Global,
     history: &History,
@@ -151,7 +153,8 @@ fn is_drawn_initial(claimed: &Claimed, drawn: &[Operation], value: u64) -> bool
     list_initial(shown_by(claimed), value) || have_value(drawn, value)
 }
 
-/// The initial values that a picture shows with these operations, front first: those that a `NO` lists or one of the operations has.
+/// Returns the initial values that a picture shows with these operations, front first: those that a `NO` lists, and
+/// those of the operations.
 pub(crate) fn drawn_initial(
     alloc: Global,
     history: &History,
@@ -184,7 +187,7 @@ fn overlaps_any(operation: Operation, lines: &[ClaimLine]) -> bool
     lines.iter().any(|line| overlaps_line(operation, *line))
 }
 
-/// Whether an operation overlaps none of those that show a `NO`.
+/// Returns whether an operation overlaps none of those that show a `NO`.
 pub fn is_away(claimed: &Claimed, operation: Operation) -> bool
     ensures { result ≡ is_away claimed.now operation }
 {
@@ -194,7 +197,7 @@ pub fn is_away(claimed: &Claimed, operation: Operation) -> bool
     }
 }
 
-/// Whether one of these operations is so.
+/// Returns whether one of these operations overlaps none of those that show a `NO`.
 pub(crate) fn is_any_away(claimed: &Claimed, operations: &[Operation]) -> bool
     ensures { result ≡ list_any (is_away claimed.now) operations.now }
 {

@@ -1,4 +1,4 @@
-//! Pictures of histories, with what is claimed of them.
+//! Pictures of histories and claims about them.
 #![tactic(auto)]
 
 mod bands;

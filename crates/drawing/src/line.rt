@@ -1,4 +1,4 @@
-//! Text made of pieces, and lines of words that stand at columns.
+//! Text made of pieces, and lines of words at columns.
 ghost use Rattle.std.specs.Prelude.{◌≡◌, ◌++◌, OnOk, decimal};
 ghost use Rattle.text_lines.specs.Lines.{line};
 ghost use Rattle.drawing.specs.Words.{placed};
@@ -7,10 +7,10 @@ ghost use Rattle.drawing.specs.Captions.{moment_text};
 use itoa::Buffer;
 use std::alloc::AllocError;
 
-/// What comes of adding to a text: `AllocError`, where a growth was refused.
+/// The result of adding to a text. The only error is out of memory.
 pub type Added = Result<(), AllocError>;
 
-/// Adds a word to a line at a column: blanks up to it, and the word. An empty word adds nothing.
+/// Appends a word at a column of a line, after blanks up to it. An empty word adds nothing.
 pub(crate) fn place(line: &mut Vec<u8>, column: usize, word: &[u8]) -> Added
     ensures { OnOk result (line.new.items ≡ placed line.old.items (record { column = column; bytes = word.now })) }
 {
@@ -22,7 +22,7 @@ pub(crate) fn place(line: &mut Vec<u8>, column: usize, word: &[u8]) -> Added
     line.extend_from_slice(word)
 }
 
-/// Adds the digits of a number.
+/// Appends the digits of a number.
 pub(crate) fn push_number(text: &mut Vec<u8>, number: u64) -> Added
     ensures { OnOk result (text.new.items ≡ text.old.items ++ decimal number) }
 {
@@ -30,7 +30,7 @@ pub(crate) fn push_number(text: &mut Vec<u8>, number: u64) -> Added
     text.extend_from_slice(buffer.format(number).as_bytes())
 }
 
-/// Adds the moment of this ticket, or the one before all tickets.
+/// Appends the moment of this ticket, or the one before all tickets.
 pub(crate) fn push_moment(text: &mut Vec<u8>, ticket: Option<u64>) -> Added
     ensures { OnOk result (text.new.items ≡ text.old.items ++ moment_text ticket) }
 {
@@ -43,7 +43,7 @@ pub(crate) fn push_moment(text: &mut Vec<u8>, ticket: Option<u64>) -> Added
     }
 }
 
-/// Adds a line to a text: these bytes, and a line feed.
+/// Appends a line to a text: these bytes, and a line feed.
 pub fn push_line(text: &mut Vec<u8>, bytes: &[u8]) -> Added
     ensures { OnOk result (text.new.items ≡ text.old.items ++ line bytes.now) }
 {

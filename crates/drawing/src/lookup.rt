@@ -1,4 +1,4 @@
-//! Which operation is in a row, and its number in the claim.
+//! The operation in a row, and its number in the claim.
 ghost use Rattle.std.specs.Prelude.{◌≡◌, ◌<◌, IfSome, length, map};
 ghost use Rattle.std.specs.List.{find};
 ghost use Rattle.drawing.specs.Layout.{is_under_way, under_way, called_at, stands_in, place_in, place_of};
@@ -9,7 +9,8 @@ use crate::scene::Row;
 use history_merge::Operation;
 use claims::{ClaimLine, Claimed};
 
-/// Returns whether an operation is of this thread, has been called by this ticket and has not returned before it, or never did.
+/// Returns whether an operation is of this thread, was called by this ticket, and hasn't returned before it, or never
+/// returned.
 fn is_under_way(added_from: Option<u64>, thread: u8, ticket: u64, operation: Operation) -> bool
     ensures { result ≡ is_under_way added_from thread ticket operation }
 {
@@ -33,14 +34,15 @@ pub(crate) fn under_way(
         .find(|o| is_under_way(added_from, thread, ticket, *o))
 }
 
-/// The operation that is called at this ticket.
+/// Returns the operation that is called at this ticket.
 pub(crate) fn called_at(operations: &[Operation], ticket: u64) -> Option<Operation>
     ensures { result ≡ called_at operations.now ticket }
 {
     operations.iter().copied().find(|o| o.call == ticket)
 }
 
-/// Whether a line of a claim stands in a row: an operation in that of its call, an initial value in its own.
+/// Returns whether a line of a claim belongs to a row: an operation to the row of its call, an initial value to its
+/// own.
 fn stands_in(row: Row, line: ClaimLine) -> bool
     ensures { result ≡ stands_in row line }
 {
@@ -51,14 +53,14 @@ fn stands_in(row: Row, line: ClaimLine) -> bool
     }
 }
 
-/// The line in a row.
+/// Returns the line that belongs to a row.
 pub(crate) fn line_in(lines: &[ClaimLine], row: Row) -> Option<ClaimLine>
     ensures { result ≡ find (stands_in row) lines.now }
 {
     lines.iter().copied().find(|line| stands_in(row, *line))
 }
 
-/// The place of the line in a row among these lines, from 0.
+/// Returns the place of a row's line among these lines, from 0.
 pub fn place_in(lines: &[ClaimLine], row: Row) -> Option<usize>
     ensures value { result ≡ place_in lines.now row }
     ensures within { IfSome result (λ place. place < length lines.now) }
@@ -74,7 +76,7 @@ fn place_in_order(order: &[Operation], row: Row) -> Option<usize>
     lines.position(|line| stands_in(row, line))
 }
 
-/// The place of the line in a row in a claim, from 0.
+/// Returns the place of a row's line in a claim, from 0.
 pub fn place_of(claimed: &Claimed, row: Row) -> Option<usize>
     ensures value { result ≡ place_of claimed.now row }
     ensures within { IfSome result (λ place. place < count_of_lines claimed.now) }

@@ -1,4 +1,4 @@
-//! Values by their names.
+//! Names of values.
 ghost use Rattle.std.specs.Prelude.{◌≡◌, ◌++◌, ◌≤◌, IfOk, OnOk, length};
 ghost use Rattle.drawing.specs.Layout.{initial_label};
 ghost use Rattle.drawing.specs.Names.{name_of, name_text, value_text};
@@ -8,14 +8,14 @@ use crate::line::{Added, push_number};
 use event_records::{MAX_THREADS, NAMES_OF_A_THREAD};
 use std::alloc::{AllocError, Global};
 
-/// The name of a value, as recorders give it.
+/// The name that recorders give a value.
 #[derive(Clone, Copy)]
 pub(crate) enum Name {
-    /// Of a thread from 1 on: the thread, and the number of its value.
+    /// A value of a thread from 1 on: the thread, and the number of the value.
     OfThread(u64, u64),
-    /// Of an initial value: its number.
+    /// An initial value: its number.
     OfInitial(u64),
-    /// Of any other value: the value itself.
+    /// Any other value: the value itself.
     Plain(u64),
 }
 
@@ -52,14 +52,14 @@ fn push_name(text: &mut Vec<u8>, name: Name) -> Added
     }
 }
 
-/// Adds a value by its name.
+/// Appends the name of a value.
 pub(crate) fn push_value(text: &mut Vec<u8>, value: u64) -> Added
     ensures { OnOk result (text.new.items ≡ text.old.items ++ value_text value) }
 {
     push_name(text, name_of(value))
 }
 
-/// An initial value by its name.
+/// Returns the label of an initial value, by its name.
 pub fn initial_label(alloc: Global, value: u64) -> Result<Vec<u8>, AllocError>
     ensures { IfOk result (λ label. label.items ≡ initial_label value) }
 {
@@ -73,7 +73,7 @@ pub fn initial_label(alloc: Global, value: u64) -> Result<Vec<u8>, AllocError>
     Ok(label)
 }
 
-/// How many characters the name of a value has.
+/// Returns the number of characters of a value's name.
 pub(crate) fn value_len(value: u64) -> u8
     ensures value { result ≡ length (value_text value) }
     ensures few { result ≤ 41 }
@@ -85,7 +85,7 @@ pub(crate) fn value_len(value: u64) -> u8
     }
 }
 
-/// How many characters the label of an initial value has.
+/// Returns the number of characters of an initial value's label.
 pub(crate) fn initial_label_len(value: u64) -> u8
     ensures { result ≡ length (initial_label value) }
 {

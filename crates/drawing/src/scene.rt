@@ -20,17 +20,17 @@ use claims::{Claimed, ViolationKind};
 /// A row of a picture.
 #[derive(Clone, Copy)]
 pub enum Row {
-    /// The words above the initial values.
+    /// The head of the initial values.
     Head,
-    /// An initial value: its place among those that are drawn, from 0 for the front one, and the value.
+    /// An initial value: its place among the drawn ones, from 0 for the front one, and the value.
     Initial(usize, u64),
-    /// This number of initial values are left out, below this number that are drawn.
+    /// A number of initial values that are left out, below this number of drawn ones.
     ValuesLeftOut(usize, usize),
     /// The event with this ticket.
     Ticket(u64),
-    /// This number of events are left out, the last of them with this ticket.
+    /// A number of events that are left out, and the ticket of the last of them.
     LeftOut(usize, u64),
-    /// An operation of a `YES` takes effect: its number in the order, and the ticket just after which it does.
+    /// The effect of an operation of a `YES`: its number in the order, and the ticket just before it.
     Effect(Operation, u64, u64),
 }
 
@@ -43,7 +43,7 @@ fn push_values_left_out(rows: &mut Vec<Row>, count: usize, drawn: usize) -> Adde
     Ok(())
 }
 
-/// Adds the rows of the initial values that are drawn.
+/// Adds the rows of the drawn initial values.
 #[tactic(auto, using(crate::proofs::Loops::steps))]
 fn push_drawn_initial(rows: &mut Vec<Row>, drawn: &[u64]) -> Added
     ensures { OnOk result (rows.new.items ≡ rows.old.items ++ flat_map initial_row (enumerate_from 0 drawn.now)) }
@@ -54,7 +54,7 @@ fn push_drawn_initial(rows: &mut Vec<Row>, drawn: &[u64]) -> Added
     Ok(())
 }
 
-/// Adds the rows of initial values under their head, where there are some: those that are drawn, and one for all others.
+/// Adds the head and the rows of initial values, if there are any: one for each drawn value, and one for all others.
 #[tactic(auto, using(crate::proofs::Loops::steps))]
 fn push_initial_rows(rows: &mut Vec<Row>, initial: &[u64], drawn: &[u64]) -> Added
     ensures { OnOk result (rows.new.items ≡ rows.old.items ++ initial_rows initial.now drawn.now) }
@@ -99,7 +99,7 @@ fn push_left_out(rows: &mut Vec<Row>, count: usize, last: u64) -> Added
     Ok(())
 }
 
-/// Adds the rows of events, of which those of the drawn operations have their own.
+/// Adds the rows of events: one for each event of a drawn operation, and others for the rest.
 fn push_rows_of_events(
     rows: &mut Vec<Row>,
     drawn: &[Operation],
@@ -124,12 +124,15 @@ fn push_rows_of_events(
     push_left_out(rows, count, last)
 }
 
-/// The scene of a history of which these operations are drawn ([`drawn_operations`](crate::drawn_operations)), and what is claimed of it.
+/// Makes the scene of a history, its drawn operations ([`drawn_operations`](crate::drawn_operations)), and a claim
+/// about it.
 ///
-/// If the history is the completion of one with pending calls, `added_from` is the ticket of the first return that was added, and an
-/// operation that returns at it or later is drawn as one that never returned. `None` if nothing was added.
+/// If the history is the completion of one with pending calls, `added_from` is the ticket of the first added return,
+/// and an operation that returns at it or later is drawn as one that never returned. It is `None` if nothing was
+/// added.
 ///
-/// Time O(n d) for n events of which d have rows, and O(k d) for k initial values; memory for the events. `AllocError` comes only where a growth was refused.
+/// Takes O(n d) time for n events of which d have rows, O(k d) for k initial values, and memory for the events. The
+/// only error is out of memory.
 #[tactic(auto, unfolding(crate::specs::Scene::scene_of, crate::specs::Scene::rows_of))]
 pub fn scene_of<'a>(
     alloc: Global,
@@ -164,7 +167,7 @@ pub fn scene_of<'a>(
     })
 }
 
-/// The gap that a row stands for: that just after this ticket, or none for that before all tickets.
+/// Returns the gap of a row: the one just after this ticket, or none for the one before all tickets.
 pub(crate) fn gap_of(row: Row) -> Option<u64>
     ensures { result ≡ gap_of row }
 {
@@ -192,7 +195,7 @@ fn stands_above(other: Row, row: Row) -> bool
     above < time || (above == time && row_turn(other) < row_turn(row))
 }
 
-/// The number of a row, from 0: how many stand above it.
+/// Returns the number of a row, from 0, which is the number of rows above it.
 #[tactic(auto, unfolding(crate::specs::Scene::row_number))]
 pub fn row_number(rows: &[Row], row: Row) -> usize
     ensures { result ≡ row_number rows.now row }
@@ -222,8 +225,8 @@ fn events_word(count: usize) -> &'static [u8]
     }
 }
 
-/// Returns the words of a row in the column of tickets: its ticket, that its return was added, or how many events or initial
-/// values are left out.
+/// Returns the words of a row in the column of tickets: its ticket, that its return was added, or the number of
+/// events or initial values left out.
 pub fn ticket_words(alloc: Global, added_from: Option<u64>, row: Row) -> Result<Vec<u8>, AllocError>
     ensures { IfOk result (λ words. words.items ≡ ticket_words added_from row) }
 {
@@ -258,7 +261,7 @@ fn ticket_words_len(added_from: Option<u64>, row: Row) -> u8
     }
 }
 
-/// How wide the column of tickets is, in characters.
+/// Returns the width of the column of tickets, in characters.
 pub fn ticket_width(added_from: Option<u64>, rows: &[Row]) -> u8
     ensures { result ≡ ticket_width added_from rows.now }
 {
@@ -268,7 +271,7 @@ pub fn ticket_width(added_from: Option<u64>, rows: &[Row]) -> u8
     )
 }
 
-/// How many lanes stand to the left of a thread's.
+/// Returns the number of lanes to the left of a thread's.
 pub fn lanes_before(threads: &[u8], thread: u8) -> usize
     requires { length threads.now ≤ MAX_THREADS }
     ensures value { result ≡ lanes_before threads.now thread }
@@ -277,7 +280,7 @@ pub fn lanes_before(threads: &[u8], thread: u8) -> usize
     threads.iter().filter(|lower| **lower < thread).count()
 }
 
-/// The word `in` or `out` of the line in a row, where a value was dequeued twice.
+/// Returns the word `in` or `out` for the line of a row, if a value was dequeued twice.
 pub fn way_in(claimed: &Claimed, row: Row) -> &'static [u8]
     ensures { result.now ≡ way_in claimed.now row }
 {

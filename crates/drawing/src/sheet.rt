@@ -1,4 +1,4 @@
-//! What pictures are made of.
+//! The parts of pictures.
 ghost use Rattle.std.specs.Prelude.{◌+◌, ◌≤◌, vec_len};
 ghost use Rattle.drawing.specs.Claim.{count_of_lines};
 ghost use Rattle.drawing.specs.declared.columns.TheConstants.{MAX_LANES, MOST_DRAWN};
@@ -11,19 +11,19 @@ use history_merge::Operation;
 use std::alloc::Global;
 use claims::Claimed;
 
-/// What a picture shows of a history and a claim.
+/// The content of a picture of a history and a claim.
 #[derive(Drop)]
 pub struct Scene<'a> {
-    /// The values of what the queue holds first that are drawn, front first.
+    /// The drawn initial values, front first.
     pub initial: Vec<u64>,
-    /// Those that are drawn.
+    /// The drawn operations.
     pub operations: Vec<Operation>,
     pub claimed: &'a Claimed,
-    /// The threads that have one of these operations, the least first.
+    /// The threads of these operations, the least first.
     pub threads: Vec<u8>,
     /// The bands of a `NO`, left to right.
     pub bands: Vec<Band>,
-    /// From top to bottom.
+    /// The rows, from top to bottom.
     pub rows: Vec<Row>,
     /// The ticket of the first return that a completion added, or none if nothing was added.
     pub added_from: Option<u64>,
@@ -34,7 +34,7 @@ pub struct Scene<'a> {
 /// A scene, and its columns.
 #[derive(Clone, Copy)]
 pub(crate) struct Sheet<'a> {
-    /// Where the memory of its words comes from.
+    /// The allocator of its words.
     pub alloc: Global,
     pub columns: Columns,
     pub scene: &'a Scene<'a>,

@@ -1,4 +1,4 @@
-//! How to read a picture.
+//! The legend of a picture.
 ghost use Rattle.std.specs.Prelude.{◌≡◌, ◌++◌, IfOk, OnOk};
 ghost use Rattle.drawing.specs.Signs.{number_signs, band_signs, operation_signs, signs_of, meaning};
 ghost use Rattle.drawing.specs.Scene.{scene_on};
@@ -10,26 +10,26 @@ use crate::sheet::Scene;
 use std::alloc::{AllocError, Global};
 use claims::{Claimed, ViolationKind};
 
-/// A sign of a picture that has to be explained.
+/// A sign of a picture that the legend explains.
 #[derive(Clone, Copy)]
 pub enum Sign {
-    /// A value that the queue holds first.
+    /// An initial value.
     First,
-    /// A number of the order of a `YES`.
+    /// A number in the order of a `YES`.
     InOrder,
-    /// A number of a `NO` whose lines are operations.
+    /// A number in a `NO` whose lines are operations.
     OfOperations,
-    /// A number of a `NO` whose lines are operations and initial values.
+    /// A number in a `NO` whose lines are operations and initial values.
     OfValues,
-    /// A band in which a value definitely is in the queue.
+    /// A band in which a value was definitely in the queue.
     Present,
-    /// A band in which a value definitely isn't in the queue.
+    /// A band in which a value was definitely not in the queue.
     Absent,
     /// The time in which that value was dequeued.
     Dequeued,
-    /// The time in which a later value went in and out.
+    /// The time in which a later value was enqueued and dequeued.
     InAndOut,
-    /// The time in which the queue was said to be empty.
+    /// The time of a dequeue that found the queue empty.
     SaidEmpty,
     /// An operation that overlaps none of those that show a `NO`.
     Away,
@@ -72,7 +72,7 @@ fn push_operation_signs(signs: &mut Vec<Sign>, scene: &Scene<'_>) -> Added
     Ok(())
 }
 
-/// The signs of a picture, from top to bottom.
+/// Returns the signs of a picture, from top to bottom.
 #[tactic(auto, unfolding(crate::specs::Signs::signs_of))]
 pub fn signs_of(alloc: Global, scene: &Scene<'_>) -> Result<Vec<Sign>, AllocError>
     ensures { IfOk result (λ signs. signs.items ≡ signs_of (scene_on scene.now)) }
@@ -83,7 +83,7 @@ pub fn signs_of(alloc: Global, scene: &Scene<'_>) -> Result<Vec<Sign>, AllocErro
     Ok(signs)
 }
 
-/// What a sign means.
+/// Returns the meaning of a sign.
 pub fn meaning(sign: Sign) -> &'static [u8]
     ensures { result.now ≡ meaning sign }
 {

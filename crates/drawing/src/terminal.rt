@@ -1,4 +1,4 @@
-//! A picture as lines of characters.
+//! Drawing a picture as lines of characters.
 ghost use Rattle.std.specs.Prelude.{if◌then◌else◌, ◌==◌, ◌≡◌, ◌≤◌, ◌-◌, ◌++◌, [], IfOk, IfSome, OnOk, length, unwrap_or};
 ghost use Rattle.std.specs.List.{flat_map};
 ghost use Rattle.drawing.specs.Claim.{count_of_lines, shown_by};
@@ -29,10 +29,10 @@ use itoa::Buffer;
 use std::alloc::{AllocError, Global};
 use claims::Claimed;
 
-/// What the forms in the lanes mean.
+/// The meaning of the forms in the lanes.
 pub(crate) const LANE_MEANINGS: &[u8] = b"[    call of an operation\n]    its return\n";
 
-/// The word of a kind of operation.
+/// Returns the word of a kind of operation.
 pub fn kind_word(kind: OpKind) -> &'static [u8]
     ensures { result.now ≡ kind_word kind }
 {
@@ -44,7 +44,7 @@ pub fn kind_word(kind: OpKind) -> &'static [u8]
     }
 }
 
-/// Adds what an operation did, and its value in full, or by its name.
+/// Appends a kind of operation and its value, in full or by its name.
 pub fn push_told(text: &mut Vec<u8>, full: bool, kind: OpKind) -> Added
     ensures { OnOk result (text.new.items ≡ text.old.items ++ told full kind) }
 {
@@ -62,7 +62,7 @@ pub fn push_told(text: &mut Vec<u8>, full: bool, kind: OpKind) -> Added
     }
 }
 
-/// What an operation did, and its value by its name.
+/// Returns the label of an operation: its kind, and its value by its name.
 pub fn label_of(alloc: Global, kind: OpKind) -> Result<Vec<u8>, AllocError>
     ensures { IfOk result (λ word. word.items ≡ label kind) }
 {
@@ -82,7 +82,8 @@ fn number_at(alloc: Global, place: Option<usize>) -> Result<Vec<u8>, AllocError>
     Ok(word)
 }
 
-/// Words after a number at the right of a column of this width; blanks, where there is no number.
+/// Returns words after a number that is right-aligned in a column of this width, or after blanks if there is no
+/// number.
 pub fn numbered(alloc: Global, wide: u8, number: &[u8], words: &[u8]) -> Result<Vec<u8>, AllocError>
     ensures { IfOk result (λ word. word.items ≡ numbered wide number.now words.now) }
 {
@@ -94,7 +95,7 @@ pub fn numbered(alloc: Global, wide: u8, number: &[u8], words: &[u8]) -> Result<
     Ok(word)
 }
 
-/// A sign that is round, if it is of an operation away from those that show a `NO`.
+/// Returns the round sign if the operation is away from those that show a `NO`, else the square one.
 fn one_of(away: bool, round: &'static [u8], square: &'static [u8]) -> &'static [u8]
     ensures { result.now ≡ one_of away round.now square.now }
 {
@@ -108,7 +109,7 @@ fn returns_at(scene: &Scene<'_>, ticket: u64, operation: Operation) -> bool
     operation.ret == ticket && !is_pending(scene.added_from, operation)
 }
 
-/// A call with its number, a return, or that an operation is under way.
+/// Returns the sign of an operation in its lane: a call with its number, a return, or a bar in between.
 fn event_sign(sheet: &Sheet<'_>, ticket: u64, operation: Operation) -> Result<Vec<u8>, AllocError>
     ensures { IfOk result (λ word. word.items ≡ event_sign sheet.now.columns (scene_on sheet.now.scene.now) ticket operation) }
 {
@@ -128,7 +129,7 @@ fn event_sign(sheet: &Sheet<'_>, ticket: u64, operation: Operation) -> Result<Ve
     }
 }
 
-/// What stands in a lane in a row, where this operation is under way.
+/// Returns the sign in a lane in a row, where `under` is the operation that is under way.
 fn lane_sign(sheet: &Sheet<'_>, row: Row, under: Option<Operation>) -> Result<Vec<u8>, AllocError>
     ensures { IfOk result (λ word. word.items ≡ lane_sign sheet.now.columns (scene_on sheet.now.scene.now) row under) }
 {
@@ -158,7 +159,7 @@ fn lane_sign(sheet: &Sheet<'_>, row: Row, under: Option<Operation>) -> Result<Ve
     }
 }
 
-/// Where the lane of a thread stands.
+/// Returns the column of a thread's lane.
 fn lane_column(sheet: &Sheet<'_>, thread: u8) -> usize
     ensures { result ≡ lane_column sheet.now.columns (scene_on sheet.now.scene.now).threads thread }
 {
@@ -166,7 +167,7 @@ fn lane_column(sheet: &Sheet<'_>, thread: u8) -> usize
     sheet.columns.lanes + lane_place(sheet.columns.lane, before)
 }
 
-/// The words in the lanes in a row.
+/// Places the signs in the lanes of a row.
 fn place_lanes(line: &mut Vec<u8>, sheet: &Sheet<'_>, row: Row) -> Added
     ensures { OnOk result (line.new.items ≡ with_words line.old.items (lane_words sheet.now.columns (scene_on sheet.now.scene.now) row)) }
 {
@@ -181,7 +182,7 @@ fn place_lanes(line: &mut Vec<u8>, sheet: &Sheet<'_>, row: Row) -> Added
     Ok(())
 }
 
-/// The bands that hold a gap: that just after a ticket, or for none that before all tickets.
+/// Places the bands that hold a gap: the one just after a ticket, or the one before all tickets.
 #[tactic(auto, using(crate::proofs::Loops::steps))]
 fn place_bands(line: &mut Vec<u8>, sheet: &Sheet<'_>, gap: Option<u64>) -> Added
     ensures { OnOk result (line.new.items ≡ with_words line.old.items (band_words sheet.now.columns (scene_on sheet.now.scene.now).bands gap)) }
@@ -193,7 +194,7 @@ fn place_bands(line: &mut Vec<u8>, sheet: &Sheet<'_>, gap: Option<u64>) -> Added
     Ok(())
 }
 
-/// The words beside the tickets.
+/// Returns the words beside the tickets.
 fn beside_words(alloc: Global, claimed: &Claimed, row: Row) -> Result<Vec<u8>, AllocError>
     ensures { IfOk result (λ word. word.items ≡ beside_words claimed.now row) }
 {
@@ -209,7 +210,7 @@ fn beside_words(alloc: Global, claimed: &Claimed, row: Row) -> Result<Vec<u8>, A
     }
 }
 
-/// Returns the label of an operation, and that its call is pending if it is.
+/// Returns the label of an operation, and whether its call is pending.
 fn operation_label(sheet: &Sheet<'_>, operation: Operation) -> Result<Vec<u8>, AllocError>
     ensures { IfOk result (λ word. word.items ≡ operation_label (scene_on sheet.now.scene.now) operation) }
 {
@@ -220,7 +221,7 @@ fn operation_label(sheet: &Sheet<'_>, operation: Operation) -> Result<Vec<u8>, A
     Ok(word)
 }
 
-/// The label of what is called, where something is; after its number, where lanes have no room for that.
+/// Returns the label of the called operation, if there is one; after its number, if lanes have no room for that.
 fn call_label(sheet: &Sheet<'_>, called: Option<Operation>) -> Result<Vec<u8>, AllocError>
     ensures { IfOk result (λ word. word.items ≡ call_label sheet.now.columns (scene_on sheet.now.scene.now) called) }
 {
@@ -238,7 +239,7 @@ fn call_label(sheet: &Sheet<'_>, called: Option<Operation>) -> Result<Vec<u8>, A
     }
 }
 
-/// Adds the words right of the bands or of the lanes.
+/// Places the words to the right of the bands or the lanes.
 fn place_told(line: &mut Vec<u8>, sheet: &Sheet<'_>, row: Row) -> Added
     ensures { OnOk result (line.new.items ≡ placed line.old.items (told_word sheet.now.columns (scene_on sheet.now.scene.now) row)) }
 {
@@ -261,7 +262,7 @@ fn place_told(line: &mut Vec<u8>, sheet: &Sheet<'_>, row: Row) -> Added
     }
 }
 
-/// A stroke under the head of each of this many bands.
+/// Places a stroke under the head of each of this many bands.
 #[tactic(auto, using(crate::proofs::Loops::steps))]
 fn place_strokes(line: &mut Vec<u8>, sheet: &Sheet<'_>, bands: usize) -> Added
     requires { bands ≤ length (scene_on sheet.now.scene.now).bands }
@@ -273,7 +274,7 @@ fn place_strokes(line: &mut Vec<u8>, sheet: &Sheet<'_>, bands: usize) -> Added
     Ok(())
 }
 
-/// Adds a line of these strokes, and of a word at a column.
+/// Appends a line of these strokes, and of a word at a column.
 fn push_under(
     text: &mut Vec<u8>,
     sheet: &Sheet<'_>,
@@ -290,7 +291,8 @@ fn push_under(
     push_line(text, bytes.as_slice())
 }
 
-/// What stands of a thread's number in a line above its lane: all of it, or where lanes are narrow its tens or its units.
+/// Returns the digits of a thread's number in a line above its lane: all of them, or, above narrow lanes, its tens or
+/// its units.
 fn thread_digits(alloc: Global, narrow: bool, tens: bool, thread: u8) -> Result<Vec<u8>, AllocError>
     ensures { IfOk result (λ word. word.items ≡ thread_digits narrow tens thread) }
 {
@@ -317,7 +319,8 @@ fn place_lane_names(line: &mut Vec<u8>, sheet: &Sheet<'_>, tens: bool) -> Added
     Ok(())
 }
 
-/// Adds the line of the words above the tickets and the order, and of the threads' numbers; or of the tens of these alone.
+/// Appends the line of the words above the tickets and the order, and of the threads' numbers; or the line of the
+/// tens of these alone.
 fn push_names(text: &mut Vec<u8>, sheet: &Sheet<'_>, tens: bool) -> Added
     ensures { OnOk result (text.new.items ≡ text.old.items ++ line (line_of (name_words sheet.now.columns (scene_on sheet.now.scene.now) tens))) }
 {
@@ -334,7 +337,7 @@ fn push_names(text: &mut Vec<u8>, sheet: &Sheet<'_>, tens: bool) -> Added
     push_line(text, bytes.as_slice())
 }
 
-/// Adds the heads: those of the bands, and those of the tickets and the lanes.
+/// Appends the heads of the bands, and those of the tickets and lanes.
 #[tactic(auto, using(crate::proofs::Loops::steps), unfolding(crate::specs::Terminal::heads))]
 fn push_heads(text: &mut Vec<u8>, sheet: &Sheet<'_>) -> Added
     ensures { OnOk result (text.new.items ≡ text.old.items ++ heads sheet.now.columns (scene_on sheet.now.scene.now)) }
@@ -362,7 +365,7 @@ fn push_heads(text: &mut Vec<u8>, sheet: &Sheet<'_>) -> Added
     push_names(text, sheet, false)
 }
 
-/// Adds the words in a row.
+/// Places the words of a row.
 #[tactic(auto, unfolding(crate::specs::Terminal::row_words))]
 fn place_row(line: &mut Vec<u8>, sheet: &Sheet<'_>, row: Row) -> Added
     ensures { OnOk result (line.new.items ≡ with_words line.old.items (row_words sheet.now.columns (scene_on sheet.now.scene.now) row)) }
@@ -377,7 +380,7 @@ fn place_row(line: &mut Vec<u8>, sheet: &Sheet<'_>, row: Row) -> Added
     place_told(line, sheet, row)
 }
 
-/// Adds row i.
+/// Appends row i.
 fn push_numbered(text: &mut Vec<u8>, sheet: &Sheet<'_>, i: usize, row: Row) -> Added
     ensures { OnOk result (text.new.items ≡ text.old.items ++ numbered_row sheet.now.columns (scene_on sheet.now.scene.now) (i, row)) }
 {
@@ -413,7 +416,7 @@ fn effect_meaning(narrow: bool, claimed: &Claimed) -> &'static [u8]
     }
 }
 
-/// Adds the signs of the picture, with what they mean.
+/// Appends the signs of the picture with their meanings.
 fn push_signs(text: &mut Vec<u8>, sheet: &Sheet<'_>) -> Added
     ensures { OnOk result (text.new.items ≡ text.old.items ++ flat_map sign_line (signs_of (scene_on sheet.now.scene.now))) }
 {
@@ -425,7 +428,7 @@ fn push_signs(text: &mut Vec<u8>, sheet: &Sheet<'_>) -> Added
     Ok(())
 }
 
-/// Adds how to read the picture.
+/// Appends the legend of the picture.
 #[tactic(auto, unfolding(crate::specs::Terminal::legend))]
 fn push_legend(text: &mut Vec<u8>, sheet: &Sheet<'_>) -> Added
     ensures { OnOk result (text.new.items ≡ text.old.items ++ legend sheet.now.columns (scene_on sheet.now.scene.now)) }
@@ -435,7 +438,7 @@ fn push_legend(text: &mut Vec<u8>, sheet: &Sheet<'_>) -> Added
     push_signs(text, sheet)
 }
 
-/// Adds what stands above the rows: what the picture shows, and how to read it.
+/// Appends the text above the rows: headline, caption and legend.
 #[tactic(auto, unfolding(crate::specs::Terminal::words))]
 fn push_words(text: &mut Vec<u8>, sheet: &Sheet<'_>) -> Added
     ensures { OnOk result (text.new.items ≡ text.old.items ++ words sheet.now.columns (scene_on sheet.now.scene.now)) }
@@ -463,9 +466,9 @@ fn push_words(text: &mut Vec<u8>, sheet: &Sheet<'_>) -> Added
 /// assert!(rt; picture.as_slice().starts_with(b"NO: "));
 /// ```
 ///
-/// The claim need not be evidence: what stands in the picture follows its lines. Time O(n t n) for n operations of t threads, and
-/// O(k m) for k initial values and m lines; memory for the text, of O(n t + k m) bytes. `AllocError` comes only where a growth was
-/// refused.
+/// The claim need not be evidence: the picture shows its lines. Takes O(n t n) time for n operations of t threads,
+/// O(k m) for k initial values and m lines, and memory for the text, of O(n t + k m) bytes. The only error is out of
+/// memory.
 #[tactic(auto, using(crate::proofs::Loops::steps), unfolding(crate::specs::Terminal::terminal_picture))]
 pub fn terminal_picture(alloc: Global, scene: &Scene<'_>) -> Result<Vec<u8>, AllocError>
     // The claim has few enough lines to be drawn.

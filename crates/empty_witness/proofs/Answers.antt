@@ -20,7 +20,7 @@ use Rattle.empty_witness.specs.declared.search.EmptyAnswer.{EmptyAnswer}
 
 -- ---- empty dequeues at their times
 
--- it was answered so, and returns within the scale
+-- an empty dequeue of the history, at its times
 pub answer_timed : (history : Contents) (place : ℕ) (o : Operation) → IsClear (course_of history) → IsEmptyAnswerAt history.operations place
     → slice_get history.operations place ≡ Some o → IsAt (timed history.operations) place (later_by ORIGIN o)
     × Did (timed history.operations) (later_by ORIGIN o) Empty × (o.call ≤ o.ret) × (o.ret + ORIGIN < NEVER)
@@ -35,7 +35,7 @@ answer_timed history place o clear (x, at_x, is) at =
     let order = call_by_return all (later_by ORIGIN o) whole there in
     (timed_at, (among, ap (λ (y : Operation). y.kind) (sym same) ∙ is), omega (arith, order), omega (arith, range))
 
--- the places of the empty dequeues are those of the same at their times
+-- empty dequeues have the same places at their times
 pub empties_timed : (operations : List Operation) (places : List ℕ) → HoldsPlaces operations is_empty_answer places
     → HoldsPlaces (timed operations) is_empty_answer places
 empties_timed operations places holds = subst (ArePlacesOf (timed operations) places) (sym (filter_timed is_empty_answer (λ o. refl) operations))
@@ -43,7 +43,7 @@ empties_timed operations places holds = subst (ArePlacesOf (timed operations) pl
 
 -- ---- the empty dequeues by their places, and one more of them in a scan
 
--- the operation that a place of a list of places names
+-- the operation at a place of a list of places
 pub listed_at : (operations : List Operation) (places : List ℕ) (listed : List Operation) (i p : ℕ) → ArePlacesOf operations places listed
     → i < length places → p ≡ get_or places i p
     → (o : Operation) × IsAt operations p o × (i < length listed) × (o ≡ get_or listed i o)
@@ -60,15 +60,15 @@ kind_of_empty : (k : OpKind) → is_empty_kind k ≡ true → k ≡ Empty
 kind_of_empty Empty is = refl
 kind_of_empty _ is = cc
 
--- one of the empty dequeues is an operation that was answered so
+-- each listed empty dequeue is an operation of that kind
 pub is_empty_did : (operations : List Operation) (o : Operation) → Contains (filter is_empty_answer operations) o → Did operations o Empty
 is_empty_did operations o among = let passed = passed_filter is_empty_answer operations o among in (passed.0, kind_of_empty o.kind passed.1)
 
--- an operation that was answered so is one of the empty dequeues
+-- each operation of that kind is a listed empty dequeue
 pub empty_is_listed : (operations : List Operation) (o : Operation) → Did operations o Empty → Contains (filter is_empty_answer operations) o
 empty_is_listed operations o did = passes_filter is_empty_answer operations o (rw did.1 refl) did.0
 
--- at each of the places stands an empty dequeue
+-- the operation at each of the places is an empty dequeue
 pub places_are_empty : (operations : List Operation) (places : List ℕ) → HoldsPlaces operations is_empty_answer places → All (IsEmptyAnswerAt operations) places
 places_are_empty operations places named i d within =
     let found = listed_at operations places (filter is_empty_answer operations) i (get_or places i d) named within
@@ -77,13 +77,13 @@ places_are_empty operations places named i d within =
     (Contains-get_or (filter is_empty_answer operations) i found.0 found.2) in
     (found.0, found.1, (is_empty_did operations found.0 among).1)
 
--- at the i-th of the places stands an empty dequeue
+-- the operation at the i-th place is an empty dequeue
 pub answer_is_empty : (operations : List Operation) (places : List ℕ) (i place : ℕ) → All (IsEmptyAnswerAt operations) places → i < length places
     → place ≡ get_or places i place → IsEmptyAnswerAt operations place
 answer_is_empty operations places i place empty within is = subst (IsEmptyAnswerAt operations) (sym is)
     (All-get_or (IsEmptyAnswerAt operations) places i place within empty)
 
--- what is listed has a place
+-- a listed operation has a place
 place_listed : (operations : List Operation) (places : List ℕ) (listed : List Operation) (i : ℕ) (o : Operation)
     → ArePlacesOf operations places listed → i < length listed → get_or listed i o ≡ o
     → (p : ℕ) × Contains places p × IsAt operations p o
@@ -100,7 +100,7 @@ place_listed operations (p ∷ places) (x ∷ listed) (suc i) o named within is 
 pub free_is_not_covered : (c : Course) (o : Operation) (gap : ℕ) → IsLeastFreeGap c o gap → ¬ (IsCovered c o)
 free_is_not_covered c o gap is covered = let life = covered gap is.in_window in is.is_free life.0 life.1 life.2
 
--- what the search for the least free gap says of the window
+-- if no gap is found, the window is covered
 pub covered_if_none : (c : Course) (o : Operation) (found : Option ℕ)
     → MatchOption found (IsCovered c o) (λ gap. IsLeastFreeGap c o (time_of gap)) → is_none found ≡ true → IsCovered c o
 covered_if_none c o None covered none = covered
@@ -114,26 +114,26 @@ gap_if_some c o None covered some = cc
 gap_if_some c o (Some gap) is some = (gap, is)
 
 module _ (h : Course) where
-  -- an answer whose window is covered returned no earlier than this one
+  -- an empty dequeue whose window is covered returned no earlier than this one
   abbrev ReturnsLater : EmptyAnswer → ℕ → Type 0
   ReturnsLater answer place = (o : Operation) → IsAt h.operations place o → IsCovered h o → answer.operation.ret ≤ o.ret
 
   abbrev HasGap : ℕ → ℕ → Type 0
   HasGap place c = (o : Operation) × IsAt h.operations place o × IsLeastFreeGap h o (time_of c)
 
-  -- if each has a gap none is covered
+  -- if each window has a gap, none is covered
   gaps_come_later : (answer : EmptyAnswer) (places gaps : List ℕ) → AreGapsAt h places gaps → All (ReturnsLater answer) places
   gaps_come_later answer places gaps zip i d within o at covered =
       let has = AllZip-get_or HasGap places gaps i d 0 zip within in
       absurd (free_is_not_covered h o (time_of (get_or gaps i 0))
       (subst (λ x. IsLeastFreeGap h x (time_of (get_or gaps i 0))) (one_at h.operations (get_or places i d) has.0 o has.1 at) has.2) covered)
 
-  -- the first of some places is the first of others of which none that is covered returned sooner
+  -- the first of some places is the first of others, if none of these is covered and returned sooner
   first_of : (seen places : List ℕ) (answer : EmptyAnswer) → IsFirstCovered h seen answer → All (ReturnsLater answer) places
       → IsFirstCovered h places answer
   first_of seen places answer is first = record { at = is.at; is_empty = is.is_empty; is_covered = is.is_covered; first = first }
 
-  -- of the first of some places and the first of others, the sooner is the first of both
+  -- of the first ones of two lists of places, the sooner is the first of both
   pub sooner_is_first : (low high : List ℕ) (a b r : EmptyAnswer) → IsFirstCovered h low a → IsFirstCovered h high b
       → IsSoonerOf a b r → IsFirstCovered h (low ++ high) r
   sooner_is_first low high a b r is_a is_b sooner = elim sooner.is_one [
@@ -145,19 +145,19 @@ module _ (h : Course) where
       all = All-append (ReturnsLater r) low high (λ i d within o at covered. omega (arith, sooner.before_first, is_a.first i d within o at covered))
           (λ i d within o at covered. omega (arith, sooner.before_second, is_b.first i d within o at covered))
 
-  -- if each of the others has a gap, the first is the first of all
+  -- if each window of the second list has a gap, the first of the first list is the first of all
   pub low_is_first : (low high gaps : List ℕ) (a : EmptyAnswer) → IsFirstCovered h low a → AreGapsAt h high gaps
       → IsFirstCovered h (low ++ high) a
   low_is_first low high gaps a is zip =
       first_of low (low ++ high) a is (All-append (ReturnsLater a) low high is.first (gaps_come_later a high gaps zip))
 
-  -- if each of the others has a gap, the first covered one of the rest is that of all
+  -- if each window of the first list has a gap, the first of the second list is the first of all
   pub high_is_first : (low high gaps : List ℕ) (b : EmptyAnswer) → AreGapsAt h low gaps → IsFirstCovered h high b
       → IsFirstCovered h (low ++ high) b
   high_is_first low high gaps b zip is =
       first_of high (low ++ high) b is (All-append (ReturnsLater b) low high (gaps_come_later b low gaps zip) is.first)
 
-  -- it is the first of its own place
+  -- a single covered empty dequeue is the first
   pub first_of_one : (place : ℕ) (x : EmptyAnswer) → x.place ≡ place → IsAt h.operations place x.operation → Did h.operations x.operation Empty
       → IsCovered h x.operation → IsFirstCovered h (place ∷ []) x
   first_of_one place x same at is_empty covered = record {
@@ -168,7 +168,7 @@ module _ (h : Course) where
         (λ o at_o _. subst (λ y. x.operation.ret ≤ y.ret) (one_at h.operations place x.operation o at at_o) (omega arith));
   }
 
-  -- past the gaps of the first places comes an answer whose window is covered, and then what is found of the others
+  -- after windows with gaps comes a covered one, and then the first of the rest
   pub from_the_first : (places gaps others : List ℕ) (i place : ℕ) (x r : EmptyAnswer) → i < length places → place ≡ get_or places i place
       → AreGapsAt h (take i places) gaps → IsFirstCovered h (place ∷ []) x → others ≡ drop (i + 1) places
       → ((seen : List ℕ) → IsFirstCovered h seen x → IsFirstCovered h (seen ++ others) r) → IsFirstCovered h places r
@@ -184,21 +184,21 @@ module _ (h : Course) where
       subst (λ ps. IsFirstCovered h (seen ++ ps) r) (sym (one_more others i place within is))
       (subst (λ ps. IsFirstCovered h ps r) (append_assoc seen (take i others) (place ∷ [])) first)
 
-  -- the window of one more of the others is covered
+  -- one more window is covered
   pub one_more_covered : (seen others : List ℕ) (i place : ℕ) (first x r : EmptyAnswer) → i < length others → place ≡ get_or others i place
       → IsFirstCovered h (seen ++ take i others) first → IsFirstCovered h (place ∷ []) x → IsSoonerOf first x r
       → IsFirstCovered h (seen ++ take (i + 1) others) r
   one_more_covered seen others i place first x r within is so_far covered sooner =
       one_further seen others i place r within is (sooner_is_first (seen ++ take i others) (place ∷ []) first x r so_far covered sooner)
 
-  -- the window of one more has a gap
+  -- one more window has a gap
   pub one_more_free : (seen others : List ℕ) (i place c : ℕ) (o : Operation) (first : EmptyAnswer) → i < length others → place ≡ get_or others i place
       → IsFirstCovered h (seen ++ take i others) first → IsAt h.operations place o
       → IsLeastFreeGap h o (time_of c) → IsFirstCovered h (seen ++ take (i + 1) others) first
   one_more_free seen others i place c o first within is so_far at free =
       one_further seen others i place first within is (low_is_first (seen ++ take i others) (place ∷ []) (c ∷ []) first so_far ((o, at, free), tt))
 
-  -- gaps of the first i windows and of the next are those of i + 1
+  -- one more window's gap
   pub one_more_gap : (places gaps : List ℕ) (i place c : ℕ) (o : Operation) → i < length places → place ≡ get_or places i place
       → AreGapsAt h (take i places) gaps → IsAt h.operations place o → IsLeastFreeGap h o (time_of c)
       → AreGapsAt h (take (i + 1) places) (gaps ++ c ∷ [])
@@ -206,7 +206,7 @@ module _ (h : Course) where
       subst (λ seen. AreGapsAt h seen (gaps ++ c ∷ [])) (sym (one_more places i place within is))
       (one_more_zipped HasGap (take i places) gaps place c zip (o, at, free))
 
-  -- the gaps of two lists of places
+  -- the gaps of two lists of places are joined
   pub gaps_together : (low high gaps more : List ℕ) → AreGapsAt h low gaps → AreGapsAt h high more
       → AreGapsAt h (low ++ high) (gaps ++ more)
   gaps_together [] high [] more zip zip' = zip'
@@ -214,7 +214,7 @@ module _ (h : Course) where
   gaps_together (place ∷ low) high [] more zip zip' = absurd zip
   gaps_together (place ∷ low) high (c ∷ gaps) more zip zip' = (zip.0, gaps_together low high gaps more zip.1 zip')
 
-  -- the gaps at the places of all empty dequeues are theirs
+  -- the gaps at the places of all empty dequeues are the least free gaps
   pub gaps_are_all : (places gaps : List ℕ) → HoldsPlaces h.operations is_empty_answer places → AreGapsAt h places gaps
       → AreLeastFreeGaps h (map time_of gaps)
   gaps_are_all places gaps named zip = gaps_listed places (filter is_empty_answer h.operations) gaps named zip

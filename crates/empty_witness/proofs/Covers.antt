@@ -1,4 +1,4 @@
--- A covered window has its chosen cover, which is as short as any.
+-- A covered window has its chosen cover, and no cover is shorter.
 use Rattle.empty_witness.proofs.Common.{[], All, All-append, All-contains, All-weaker, ap, arith, call_before_return}
 use Rattle.empty_witness.proofs.Common.{call_or_never, cases_lt, cases_order, clear_on, Contains}
 use Rattle.empty_witness.proofs.Common.{Contains-append_cases, Contains-append_right, contains_cons, Course, course}
@@ -27,7 +27,7 @@ stays_at_least_one x y = elim (cases_order (dequeue_call x) (dequeue_call y)) [
   | inl same ↦ elim (cases_lt (enqueue_return x) (enqueue_return y)) [ inl first ↦ inl (omega arith, λ _. omega arith) | inr last ↦ inr (omega arith, λ _. last) ]
 ]
 
--- of the values whose enqueue returned before the frontier, the one that stays longest
+-- the value that stays longest among those whose enqueue returned before the frontier
 record IsLongestBefore (lives : List Life) (frontier : ℕ) (life : Life) : Type 0 where
   among : Contains lives life
   before_frontier : enqueue_return life < frontier
@@ -87,7 +87,7 @@ next_of_cover operations frontier some clear is before = elim (longest_of (lives
   | inr none ↦ let late = none some (life_is_contained operations some clear is) in absurd (omega arith)
 ]
 
--- a cover that goes on after its first value
+-- a cover that continues after its first value
 go_on : (h : Course) (empty : Operation) (frontier : ℕ) (life : Life) (rest : List Life) → IsLife h life
     → enqueue_return life < frontier → dequeue_call life < NEVER → CoversFrom h empty (dequeue_call life) rest
     → CoversFrom h empty frontier (life ∷ rest)
@@ -115,7 +115,7 @@ chosen_cover_violates operations empty cover clear did chosen =
     let range = return_in_range operations empty clear.complete did.0 in
     record { answers_empty = did; covers = chosen_covers (on operations) empty empty.call cover (omega arith) chosen }
 
--- the chosen cover from an operation on, at most this many tickets before the empty dequeue returns
+-- the chosen cover from an operation on, at most `left` tickets before the empty dequeue returns
 cover_from : (left : ℕ) (operations : List Operation) (empty before : Operation) → IsClear (on operations) → Did operations empty Empty
     → IsCovered (on operations) empty → Contains operations before → ((v : ℕ) → before.kind ≢ Enq v) → empty.call ≤ before.call → before.call < empty.ret
     → empty.ret ≤ before.call + left → (cover : List Life) × IsChosenCoverFrom (on operations) empty before.call cover
@@ -206,7 +206,7 @@ pub record IsCoverSoFar (initial : List ℕ) (operations : List Operation) (o : 
       → IsChosenCover (course initial operations) o (lives ++ rest)
   pub ends : o.ret < frontier → IsChosenCover (course initial operations) o lives
 
--- no operation returns when a value's dequeue is called, or at the ticket that stands for never
+-- no operation returns when a value's dequeue is called, or at `NEVER`
 no_return_at : (operations : List Operation) (v : ℕ) (dequeue : Option Operation) → AreComplete operations
     → MatchOption dequeue (NoneDid operations (Deq v)) (λ d. Did operations d (Deq v))
     → (x : Operation) → Contains operations x → x.ret ≢ call_or_never dequeue
@@ -225,7 +225,7 @@ module _ (initial : List ℕ) (operations : List Operation) (values : List Match
   empty_there : Did all o Empty
   empty_there = (Contains-append_right (initial_enqueues initial) (timed operations) o is_empty.0, is_empty.1)
 
-  -- before the first step
+  -- no step is taken yet
   pub no_steps_yet : IsCoverSoFar initial operations o [] o.call
   no_steps_yet = record {
     lives = [];
@@ -254,7 +254,7 @@ module _ (initial : List ℕ) (operations : List Operation) (values : List Match
       absurd (All-contains (λ value. ¬ (EntersBefore frontier value.life)) values value.0 none value.1 value.2)
   next_is_found steps frontier (Some value) so_far below is = search rules
 
-  -- of the values but the first n, which are gone by the call, the longest is the longest of all
+  -- the longest of the values that aren't gone by the call is the longest of all
   pub longest_of_all : (n : ℕ) (steps : List CoverStep) (frontier : ℕ) (found : Option MatchedValue)
       → All (λ value. dequeue_call value.life ≤ o.call) (take n values) → IsCoverSoFar initial operations o steps frontier → frontier < o.ret
       → FindsLongest (EntersBefore frontier) (drop n values) found → FindsLongest (EntersBefore frontier) values found
@@ -304,7 +304,7 @@ module _ (initial : List ℕ) (operations : List Operation) (values : List Match
         (subst (EntersBefore frontier) (sym held.2) before));
   }
 
-  -- it stays past the frontier
+  -- the next value stays past the frontier
   pub frontier_rises : (steps : List CoverStep) (frontier : ℕ) (value : MatchedValue) → IsCoverSoFar initial operations o steps frontier → frontier < o.ret
       → IsLongestOf (EntersBefore frontier) values value → frontier < dequeue_call value.life
   frontier_rises steps frontier value so_far below is =
@@ -312,7 +312,7 @@ module _ (initial : List ℕ) (operations : List Operation) (values : List Match
       let stays = All-contains (λ other. EntersBefore frontier other.life → StaysAtLeast value.life other.life) values other.0 is.longest other.1 other.2 in
       omega (arith, stays.0, other.3)
 
-  -- with the next value
+  -- one more step, with the next value
   pub one_more_step : (steps : List CoverStep) (frontier : ℕ) (value : MatchedValue) → IsCoverSoFar initial operations o steps frontier → frontier < o.ret
       → IsLongestOf (EntersBefore frontier) values value
       → IsCoverSoFar initial operations o
@@ -336,7 +336,7 @@ module _ (initial : List ℕ) (operations : List Operation) (values : List Match
       next : IsNextOfCover (course initial operations) frontier value.life
       next = is_next frontier value is
 
-  -- past the return the cover is whole
+  -- past the return the cover is complete
   pub cover_is_whole : (steps : List CoverStep) (frontier : ℕ) → IsCoverSoFar initial operations o steps frontier → o.ret ≤ frontier
       → NamesChosenCover initial operations o steps
   cover_is_whole steps frontier so_far past =

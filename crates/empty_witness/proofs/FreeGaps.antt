@@ -9,7 +9,7 @@ use Rattle.empty_witness.proofs.Common.{suc, sym, time_of, true, zero, ℕ, ◌+
 use Rattle.std.specs.Bool.{then_some}
 use Rattle.std.specs.List.Sorted.{IsNonDecreasingBy, IsPartitionPoint}
 
--- ---- the least gap outside of spans, and what it says of a window
+-- ---- the least gap outside of spans, in a window
 
 -- the starts of spans that are apart rise
 pub starts_rise : (spans : List Span) → AreApart spans → IsNonDecreasingBy (λ span. span.start) spans
@@ -26,7 +26,7 @@ module _ (spans : List Span) (from begun : ℕ) (point : IsPartitionPoint (λ sp
   begins_later : (k : ℕ) (d : Span) → begun ≤ k → k < length spans → from < (get_or spans k d).start
   begins_later k d after within = leb-false _ _ (point.1 k d after within)
 
-  -- if no span has begun
+  -- no span has begun
   pub none_begun : begun ≡ 0 → IsFirstOutside spans from from
   none_begun none = record {
     no_less = omega arith;
@@ -37,7 +37,7 @@ module _ (spans : List Span) (from begun : ℕ) (point : IsPartitionPoint (λ sp
     least = λ b above below. absurd (omega arith);
   }
 
-  -- by the last span that has begun
+  -- some span has begun, the last of them just before
   pub after_last_begun : (d : Span) (c : ℕ) → AreApart spans → begun ≢ 0 → begun ≤ length spans → c ≡ max (get_or spans (begun - 1) d).end from
       → IsFirstOutside spans from c
   after_last_begun d c are some inside is = record {
@@ -64,7 +64,7 @@ module _ (spans : List Span) (from begun : ℕ) (point : IsPartitionPoint (λ sp
 
 module _ (c : Course) (spans : List Span) (o : Operation) (gap : ℕ) (are : AreSpansOf c spans)
     (is : IsFirstOutside spans o.call gap) where
-  -- inside of the window it is the least free gap
+  -- a gap inside of the window is its least free gap
   free_in_window : gap < o.ret → IsLeastFreeGap c o gap
   free_in_window below = record {
     in_window = (is.no_less, below);
@@ -75,11 +75,11 @@ module _ (c : Course) (spans : List Span) (o : Operation) (gap : ℕ) (are : Are
     ];
   }
 
-  -- past the window, the window is covered
+  -- if the gap is past the window, the window is covered
   covered_to : o.ret ≤ gap → IsCovered c o
   covered_to past b window = (are.cover b).0 (is.least b window.0 (omega (arith, window.1)))
 
-  -- a gap within the window is its least free one; past the window, that is covered
+  -- a gap within the window is its least free one; if it is past the window, the window is covered
   pub gap_of_window : (found : Option ℕ) → ORIGIN ≤ o.call → found ≡ then_some (ltb gap o.ret) (gap - ORIGIN)
       → MatchOption found (IsCovered c o) (λ g. IsLeastFreeGap c o (time_of g))
   gap_of_window found late same = rw same (elim (cases_lt gap o.ret) [
@@ -108,7 +108,7 @@ covering (x ∷ lives) c =
       ]
     ]
 
--- from a gap on below which the window is covered: the least free gap, or the whole window is covered
+-- from a gap on, below which the window is covered: the least free gap, or the whole window is covered
 free_from : (left c : ℕ) (operations : List Operation) (o : Operation) → IsClear (on operations)
     → ((b : ℕ) → o.call ≤ b → b < c → (life : Life) × IsLife (on operations) life × Covers life b) → o.call ≤ c → c + left ≡ o.ret
     → ((g : ℕ) × IsLeastFreeGap (on operations) o g) ⊎ IsCovered (on operations) o

@@ -1,4 +1,4 @@
--- The spans of the stays of a history's values are the history's.
+-- The spans of the stays of a history's values are those of the history.
 use Rattle.empty_witness.proofs.Common.{[], All, All-pop, All-push, All-weaker, ap, AreApart, AreSpansOf, arith}
 use Rattle.empty_witness.proofs.Common.{Contains, Contains-append_left, Contains-push, Contains-push_cases, Contents}
 use Rattle.empty_witness.proofs.Common.{course_of, Covers, get_or, get_or_append_left, get_or_push, Holds, HoldsValues}
@@ -27,7 +27,7 @@ module _ (xs : List Span) (x : Span) (are : AreApart (xs ++ x ∷ [])) where
   some_hold : All (λ s. s.start < s.end) xs × (x.start < x.end)
   some_hold = All-pop (λ s. s.start < s.end) (xs ++ x ∷ []) xs (Some x) refl are.hold_some
 
-  -- those before it are apart
+  -- the spans before the last are apart
   pub apart_before : AreApart xs
   apart_before = record {
     hold_some = some_hold.0;
@@ -38,7 +38,7 @@ module _ (xs : List Span) (x : Span) (are : AreApart (xs ++ x ∷ [])) where
         omega (arith, pair, first, second);
   }
 
-  -- they end before it
+  -- the spans before the last end before it
   pub end_before : All (λ s. s.end < x.start) xs
   end_before k d within =
       let pair = are.apart k (length xs) d within (let long = length-append xs (x ∷ []) in omega arith) in
@@ -53,7 +53,7 @@ spans_push spans last are below some = record {
   apart = all_pairs_push (λ x y. x.end < y.start) spans last are.apart (λ k d within. below k d within);
 }
 
--- a span behind all others
+-- a span after all others
 pub with_last : (spans : List Span) (span : Span) → AreApart spans → All (λ s. s.end < span.start) spans → span.start < span.end
     → IsWithSpan spans span (spans ++ span ∷ [])
 with_last spans span are below some = record {
@@ -69,7 +69,7 @@ module _ (spans : List Span) (last span : Span) (are : AreApart (spans ++ last �
       (All-weaker (λ s. s.end < last.start) (λ s. s.end < span.start) (λ s less. let holds = (some_hold spans last are).1 in omega arith) spans
       (end_before spans last are)) after) some
 
-  -- one that ends before the start of the last, put among those before it
+  -- a span that ends before the start of the last is put among those before it
   pub before_last : (new : List Span) → span.end < last.start → IsWithSpan spans span new → IsWithSpan (spans ++ last ∷ []) span (new ++ last ∷ [])
   before_last new before with_span = record {
     apart = spans_push new last with_span.apart (with_span.ends last.start (end_before spans last are) before) (some_hold spans last are).1;
@@ -91,9 +91,9 @@ module _ (spans : List Span) (last span : Span) (are : AreApart (spans ++ last �
         All-push (λ s. s.end < b) new last (with_span.ends b parts.0 ends) parts.1;
   }
 
-  -- one that touches or overlaps the last, joined with it
+  -- a span that touches or overlaps the last is joined with it
   module _ (joined : Span) (of_both : IsOfBoth last span joined) (begins : span.start ≤ last.end) (ends : last.start ≤ span.end) where
-    -- some gap lies in both together
+    -- the joined span holds some gap
     pub joined_holds : joined.start < joined.end
     joined_holds = omega (arith, of_both.starts, of_both.ends, some)
 
@@ -127,7 +127,7 @@ module _ (spans : List Span) (last span : Span) (are : AreApart (spans ++ last �
             let cases : (((last.start ≤ c) × (c < last.end)) ⊎ ((span.start ≤ c) × (c < span.end))) = grind arith in
             cases
 
--- a span that begins within the last, or where that ends, which grows
+-- a span that begins within the last, or where that ends, makes the last longer
 module _ (spans : List Span) (i : ℕ) (last stay grown : Span) (is_last : i + 1 ≡ length spans) (read : (d : Span) → last ≡ get_or spans i d)
     (are : AreApart spans) (some : stay.start < stay.end) (within : last.start ≤ stay.start) (touches : stay.start ≤ last.end)
     (starts : grown.start ≡ last.start) (ends : grown.end ≡ max last.end stay.end) where
@@ -154,9 +154,9 @@ module _ (spans : List Span) (i : ℕ) (last stay grown : Span) (is_last : i + 1
       (with_joined before last stay are' some grown both touches (omega (arith, within, some)) (before ++ grown ∷ [])
       (with_last before grown (apart_before before last are') below holds)))
 
--- ---- the spans of the stays of a history's values are the history's
+-- ---- the spans of the stays of a history's values are those of the history
 
--- at this gap one of the values is definitely in the queue
+-- some value is definitely in the queue at this gap
 abbrev pub Stays : List MatchedValue → ℕ → Type 0
 Stays values c = (m : MatchedValue) × Contains values m × Holds (stay_of m.life) c
 
@@ -166,7 +166,7 @@ pub record AreSpansSoFar (values : List MatchedValue) (n : ℕ) (spans : List Sp
   pub lies : (c : ℕ) → LiesIn spans c → Stays (take n values) c
   pub stays : (c : ℕ) → Stays (take n values) c → LiesIn spans c
 
--- of no values there are none
+-- no values have no spans
 pub no_spans : (values : List MatchedValue) → AreSpansSoFar values 0 []
 no_spans values = record {
   apart = record { hold_some = λ k d within. absurd (omega arith); apart = λ i j d less within. absurd (omega arith) };
@@ -182,7 +182,7 @@ module _ (values : List MatchedValue) (n : ℕ) (spans : List Span) (m : Matched
   sooner : (c : ℕ) → Stays (take n values) c → Stays (take (n + 1) values) c
   sooner c stays = subst (λ xs. Stays xs c) (sym more) (stays.0, Contains-append_left (take n values) (m ∷ []) stays.0 stays.1, stays.2)
 
-  -- with the stay of one value more
+  -- the spans with one more value
   pub with_value : (new : List Span) → IsWithSpan spans (stay_of m.life) new → AreSpansSoFar values (n + 1) new
   with_value new with_span = record {
     apart = with_span.apart;
@@ -198,7 +198,7 @@ module _ (values : List MatchedValue) (n : ℕ) (spans : List Span) (m : Matched
         ];
   }
 
-  -- one value more that doesn't stay
+  -- one more value without a stay
   pub without_value : (stay_of m.life).end ≤ (stay_of m.life).start → AreSpansSoFar values (n + 1) spans
   without_value none = record {
     apart = so_far.apart;
@@ -213,7 +213,7 @@ module _ (values : List MatchedValue) (n : ℕ) (spans : List Span) (m : Matched
         ];
   }
 
--- the spans of all values are the history's
+-- the spans of all values are those of the history
 pub are_spans : (history : Contents) (values : List MatchedValue) (n : ℕ) (spans : List Span) → IsClear (course_of history) → HoldsValues history values
     → length values ≤ n → AreSpansSoFar values n spans → AreSpansOf (course_of history) spans
 are_spans history values n spans clear holds all are = record {

@@ -2,10 +2,10 @@ use event_records::OwnedSlice;
 use history_merge::OpId;
 use value_match::Cover;
 
-/// The gaps of empty dequeues, seen as a list. Gap c is the place just after ticket c.
+/// The gaps of empty dequeues, seen as a list. Gap c is the time just after ticket c.
 pub type Gaps = OwnedSlice<u64>;
 
-/// What a search finds in the window of one empty dequeue.
+/// The result of searching the window of one empty dequeue.
 #[derive(Debug, Drop)]
 pub enum GapAnswer {
     /// The least gap of the window at which the queue may have been empty.
@@ -14,11 +14,11 @@ pub enum GapAnswer {
     Covered(Cover),
 }
 
-/// What a search finds in the windows of all empty dequeues.
+/// The result of searching the windows of all empty dequeues.
 #[derive(Debug, Drop)]
 pub enum WitnessAnswer {
-    /// The least free gap of each, in the order of their calls.
+    /// The least free gap of each empty dequeue, in the order of their calls.
     Gaps(Gaps),
-    /// Of those whose windows are covered the one that returned first, with its chosen cover.
+    /// The empty dequeue that returned first among those whose windows are covered, with its chosen cover.
     Covered { empty: OpId, cover: Cover },
 }

@@ -8,9 +8,10 @@ use history_merge::Operation;
 use std::alloc::{AllocError, Global};
 use value_match::{Cover, CoverStep, LongestTable, Matching, Values};
 
-/// Returns the chosen cover of a window that is covered.
+/// Returns the chosen cover of a covered window.
 ///
-/// Time O(n log n) for n values: a table of those that may be in the queue at its call, and a look-up for each step.
+/// Takes O(n log n) time for n values: it makes a table of those that may be in the queue at the window's call, and
+/// looks a value up for each step.
 pub(crate) fn cover_of(
     alloc: Global,
     matching: &Matching,
@@ -36,7 +37,7 @@ pub(crate) fn cover_of(
     Ok(Cover::from_vec(steps))
 }
 
-/// How many values, of those that were enqueued first, were called to be dequeued by this ticket.
+/// Returns how many of the first values have had their dequeues called by this ticket.
 fn count_gone(values: &Values, ticket: u64) -> usize
     ensures within { result ≤ length values.now }
     ensures gone { All (λ value. dequeue_call value.life ≤ ticket) (take result values.now) }

@@ -10,7 +10,7 @@ use crate::spans::Span;
 use event_records::ORIGIN;
 use history_merge::Operation;
 
-/// Returns the least gap from this one on that lies in no span.
+/// Returns the least gap, from `from` on, that lies in no span.
 fn first_outside(spans: &[Span], from: u64) -> u64
     requires { AreApart spans.now }
     ensures { IsFirstOutside spans.now from result }
@@ -23,8 +23,8 @@ fn first_outside(spans: &[Span], from: u64) -> u64
     }
 }
 
-/// Returns the ticket of the least free gap in the window of an operation of a history, if there is one, by the spans
-/// of the history.
+/// Returns the ticket of the least free gap in the window of an operation, if there is one, by the spans of the
+/// history.
 pub(crate) fn least_free_gap(spans: &[Span], answer: &Operation) -> Option<u64>
     requires apart { AreApart spans.now }
     requires late { ORIGIN ≤ answer.now.call }

@@ -1,4 +1,4 @@
-//! Gaps at which the queue may have been empty, and values that together leave none.
+//! Gaps at which the queue may have been empty, and covers of values that leave no such gap.
 #![tactic(auto)]
 
 mod answer;

@@ -22,22 +22,23 @@ pub struct EmptyAnswer {
     pub operation: Operation,
 }
 
-/// What a search finds in the windows of some empty dequeues.
+/// The result of searching the windows of some empty dequeues.
 #[derive(Drop)]
 pub enum WindowsAnswer {
-    /// None is covered: the least free gap of each, by its ticket, in their order.
+    /// No window is covered: the tickets of the least free gaps, in the order of the empty dequeues.
     Free(Vec<u64>),
-    /// Of those whose windows are covered, the one that returned first.
+    /// The empty dequeue that returned first among those whose windows are covered.
     Covered(EmptyAnswer),
 }
 
-/// Finds the least free gap in the window of an empty dequeue, or the chosen cover of the window.
+/// Returns the least free gap in the window of an empty dequeue, or the chosen cover of the window.
 ///
 /// This is for callers who ask for one window: `verdicts::decide` judges all of them, by [`find_witness`].
 ///
-/// Gap c is the place just after ticket c, and an operation's window has the gaps from its call to before its return.
-/// Places and tickets are the history's; a cover names its initial values too. Time O(n) for n values, whatever the width
-/// of the window; a covered one costs a sort of them more. The only error is out of memory.
+/// Gap c is the time just after ticket c. The window of an operation has the gaps from its call to just before its
+/// return. Places and tickets are those of the history, and a cover names initial values too. Takes O(n) time for n
+/// values, whatever the width of the window, and sorts the values too if the window is covered. The only error is out
+/// of memory.
 pub fn gap_for(alloc: Global, matching: &Matching, empty: OpId) -> Result<GapAnswer, AllocError>
     requires { IsEmptyAnswerAt matching.now.operations empty }
     ensures { IfOk result (IsGapAnswer matching.now.initial matching.now.operations empty) }
@@ -50,12 +51,12 @@ pub fn gap_for(alloc: Global, matching: &Matching, empty: OpId) -> Result<GapAns
     }
 }
 
-/// Finds the least free gap of each empty dequeue, in the order of their calls, or the chosen empty dequeue whose
-/// window is covered, with its cover; by the places and tickets of the history.
+/// Returns the least free gap of each empty dequeue, in the order of their calls, or the chosen empty dequeue whose
+/// window is covered, with its cover. Places and tickets are those of the history.
 ///
-/// Time O(n + m log n) for n values and m empty dequeues: it joins the values' stays once, and looks each window up among
-/// them. A covered window costs a sort of the values more; if no dequeue is empty it is O(1). The only error is out of
-/// memory.
+/// Takes O(n + m log n) time for n values and m empty dequeues: it joins the values' stays once, and looks each
+/// window up among them. If a window is covered it sorts the values too; without empty dequeues it takes O(1). The
+/// only error is out of memory.
 pub fn find_witness(alloc: Global, matching: &Matching) -> Result<WitnessAnswer, AllocError>
     ensures { IfOk result (IsWitnessAnswer matching.now.initial matching.now.operations) }
 {
@@ -68,9 +69,9 @@ pub fn find_witness(alloc: Global, matching: &Matching) -> Result<WitnessAnswer,
     witness_of(alloc, matching, windows)
 }
 
-/// Returns the answer of `find_witness`, from what was found in the windows of all empty dequeues.
+/// Returns the result of `find_witness`, given what was found in the windows of all empty dequeues.
 ///
-/// Time O(n log n) for n values if a window is covered, for its cover. The only error is out of memory.
+/// Takes O(n log n) time for n values if a window is covered, for its cover. The only error is out of memory.
 pub fn witness_of(
     alloc: Global,
     matching: &Matching,
@@ -103,7 +104,7 @@ fn answer_at(matching: &Matching, empty: OpId) -> EmptyAnswer
     }
 }
 
-/// Returns the one of two empty dequeues that returned first.
+/// Returns whichever of two empty dequeues returned first.
 pub fn sooner_of(first: EmptyAnswer, second: EmptyAnswer) -> EmptyAnswer
     ensures { IsSoonerOf first second result }
 {
@@ -114,9 +115,10 @@ pub fn sooner_of(first: EmptyAnswer, second: EmptyAnswer) -> EmptyAnswer
     }
 }
 
-/// Searches the windows of the empty dequeues at these places, by the spans of the history: each window is one look-up.
+/// Searches the windows of the empty dequeues at these places, by the spans of the history. Each window is one
+/// look-up.
 ///
-/// Time O(m log n) for m places and n spans. The only error is out of memory.
+/// Takes O(m log n) time for m places and n spans. The only error is out of memory.
 pub fn windows_at(
     alloc: Global,
     matching: &Matching,
@@ -141,7 +143,8 @@ pub fn windows_at(
     Ok(WindowsAnswer::Free(gaps))
 }
 
-/// Returns the covered one that returned first, of an empty dequeue whose window is covered and others.
+/// Returns the empty dequeue that returned first among those whose windows are covered: `covered`, and some of the
+/// others.
 fn first_covered(
     matching: &Matching,
     spans: &[Span],

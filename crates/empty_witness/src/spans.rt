@@ -6,16 +6,16 @@ ghost use Rattle.empty_witness.specs.Inner.Spans.{IsOfBoth, IsWithSpan};
 use std::alloc::{AllocError, Global};
 use value_match::{Life, Matching};
 
-/// The gaps from the start to before the end.
+/// The gaps from `start` to just before `end`.
 #[derive(Clone, Copy)]
 pub struct Span {
     pub start: u64,
     pub end: u64,
 }
 
-/// Returns the spans of the gaps at which some value is definitely in the queue, by rising start; no two touch.
+/// Returns the spans of the gaps at which some value is definitely in the queue, by rising start. No two touch.
 ///
-/// Time O(n) for n values. It takes memory for the spans alone, and the only error is out of memory.
+/// Takes O(n) time for n values, and memory for the spans alone. The only error is out of memory.
 pub fn spans_of(alloc: Global, matching: &Matching) -> Result<Vec<Span>, AllocError>
     ensures { IfOk result (λ spans. AreSpansOf (course_of matching.now) spans.items) }
 {
@@ -40,7 +40,7 @@ fn stay_of(life: &Life) -> Span
     }
 }
 
-/// Adds the stay of a value to spans that are apart. Mostly it begins within the last of them, or where that one ends.
+/// Adds the stay of a value to spans that are apart. Mostly the stay begins within the last span, or where that ends.
 #[inline(always)]
 fn add_stay(spans: &mut Vec<Span>, stay: Span) -> Result<(), AllocError>
     requires apart { AreApart spans.old.items }
@@ -59,7 +59,7 @@ fn add_stay(spans: &mut Vec<Span>, stay: Span) -> Result<(), AllocError>
 
 /// Adds a span to spans that are apart, and joins it with those that it touches or overlaps.
 ///
-/// It calls itself for each later span, of which there are no more than enqueues were pending at once.
+/// It calls itself for each later span. There are no more of these than enqueues were pending at once.
 #[inline(never)]
 #[cycle(spans)]
 fn add_span(spans: &mut Vec<Span>, span: Span) -> Result<(), AllocError>
@@ -84,7 +84,7 @@ fn add_span(spans: &mut Vec<Span>, span: Span) -> Result<(), AllocError>
     add_span(spans, joined(last, span))
 }
 
-/// The span of two that touch or overlap.
+/// Returns the span of two that touch or overlap.
 fn joined(one: Span, other: Span) -> Span
     ensures { IsOfBoth one other result }
 {

@@ -11,7 +11,8 @@ use Rattle.event_records.specs.declared.kind.Answer.TheVariants.{Taken, Not, Got
 use Rattle.event_records.specs.declared.event.Event.{Event}
 use Rattle.event_records.specs.declared.limits.TheConstants.{NAMES_OF_A_THREAD}
 
--- one operation as its thread asks for it: which operation of the thread it is, from 0, its call ticket, and which ticket word that was drawn from
+-- an operation as its thread asks for it: its number in the thread, from 0, its kind, its call ticket, and the key of
+-- the ticket word from which that was drawn
 pub record Question : Type 0 where
   pub thread : ℕ
   pub number : ℕ
@@ -19,17 +20,17 @@ pub record Question : Type 0 where
   pub call : ℕ
   pub key : TableId
 
--- a question, and what the queue answered to it
+-- a question with its answer
 pub record Answered : Type 0 where
   pub question : Question
   pub answer : Answer
 
--- the thread whose operations are numbered, and how many it has asked
+-- the thread whose operations are numbered, and the number of those asked
 pub record NamerView : Type 0 where
   pub thread : ℕ
   pub asked : ℕ
 
--- the value that a thread's n-th operation enqueues, n counted from 0
+-- the value that the n-th operation of a thread enqueues, n counted from 0
 abbrev pub value_name : ℕ → ℕ → ℕ
 value_name thread n = thread * NAMES_OF_A_THREAD + n
 
@@ -42,7 +43,7 @@ abbrev pub call_what : Kind → ℕ → What
 call_what Enq v = CallEnq v
 call_what Deq v = CallDeq
 
--- the return of an operation that was answered so
+-- the return of an operation with this answer
 abbrev pub return_what : Answer → What
 return_what Taken = RetEnq
 return_what Not = RetNot
@@ -57,7 +58,7 @@ call_event q = record { ticket = q.call; thread = q.thread; what = call_what q.k
 abbrev pub return_event : Answered → ℕ → Event
 return_event a ret = record { ticket = ret; thread = a.question.thread; what = return_what a.answer }
 
--- the answer of a dequeue that gave this
+-- the answer of a dequeue with this result
 abbrev pub dequeued : Option ℕ → Answer
 dequeued (Some v) = Got v
 dequeued None = Empty

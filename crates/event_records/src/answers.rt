@@ -1,4 +1,4 @@
-// Questions with their answers, and the return events that stamps give.
+// Answered questions, and the return events that stamps give.
 ghost use Rattle.std.specs.Prelude.{◌≡◌, ◌<◌, Contains, IsTrue};
 ghost use Rattle.tickets.specs.Views.{DrawsOne};
 ghost use Rattle.event_records.specs.Question.{call_event, return_event};
@@ -12,7 +12,7 @@ use crate::questions::{AskDeq, AskEnq};
 use std::marker::Model;
 use tickets::{Pass, Tickets};
 
-/// An enqueue with its answer. It holds the question, and so can be used once only.
+/// An enqueue with its answer. It holds the question, so it can be used only once.
 #[derive(Drop)]
 pub struct AnsweredEnq {
     ask: AskEnq,
@@ -29,7 +29,7 @@ impl Model for AnsweredEnq {
     ghost view = { λ a. record { question = a.ask; answer = (if a.taken then Taken else Not) } };
 }
 
-/// A dequeue with its answer. It holds the question, and so can be used once only.
+/// A dequeue with its answer. It holds the question, so it can be used only once.
 #[derive(Drop)]
 pub struct AnsweredDeq {
     ask: AskDeq,
@@ -45,7 +45,7 @@ impl Model for AnsweredDeq {
 }
 
 impl AskEnq {
-    /// The queue took the value.
+    /// Answers that the enqueue succeeded.
     pub fn taken(self) -> AnsweredEnq
         ensures answered { result ≡ record { question = self; answer = Taken } }
         ensures kind { self.kind ≡ Enq }
@@ -56,7 +56,7 @@ impl AskEnq {
         }
     }
 
-    /// The queue didn't take the value: it was full or out of memory.
+    /// Answers that the enqueue failed: the queue was full or out of memory.
     pub fn not_taken(self) -> AnsweredEnq
         ensures answered { result ≡ record { question = self; answer = Not } }
         ensures kind { self.kind ≡ Enq }
@@ -69,7 +69,7 @@ impl AskEnq {
 }
 
 impl AskDeq {
-    /// The queue gave `value`.
+    /// Answers that the dequeue got `value`.
     pub fn got(self, value: u64) -> AnsweredDeq
         ensures answered { result ≡ record { question = self; answer = Got value } }
         ensures kind { self.kind ≡ Deq }
@@ -80,7 +80,7 @@ impl AskDeq {
         }
     }
 
-    /// The queue was empty.
+    /// Answers that the dequeue found the queue empty.
     pub fn empty(self) -> AnsweredDeq
         ensures answered { result ≡ record { question = self; answer = Empty } }
         ensures kind { self.kind ≡ Deq }
@@ -92,7 +92,7 @@ impl AskDeq {
     }
 }
 
-// Notes the return event of a thread, at a ticket that it draws.
+// Draws a ticket for the return event of a thread, and notes the event.
 fn note_return(thread: u8, what: What, pass: &mut Pass, tickets: &Tickets) -> Noted
     requires key { pass.old.key ≡ tickets.now.key }
     requires some_left { 0 < pass.old.left }
@@ -108,7 +108,7 @@ fn note_return(thread: u8, what: What, pass: &mut Pass, tickets: &Tickets) -> No
 }
 
 impl AnsweredEnq {
-    /// Draws the return ticket, and notes the return.
+    /// Draws the return ticket of an enqueue, and notes its return.
     ///
     /// The call uses the answer up, so the answer was there before the ticket. The pass is that of the question's
     /// thread, which drew the call ticket.
@@ -131,7 +131,7 @@ impl AnsweredEnq {
 }
 
 impl AnsweredDeq {
-    /// Draws the return ticket, and notes the return of the dequeue.
+    /// Draws the return ticket of a dequeue, and notes its return.
     pub fn stamp(self, pass: &mut Pass, tickets: &Tickets) -> Noted
         requires key { (pass.old.key ≡ tickets.now.key) × (self.question.key ≡ tickets.now.key) }
         requires drew { Contains pass.old.drawn self.question.call }

@@ -1,24 +1,24 @@
-/// What a thread called, or what the queue answered.
+/// The call of a thread, or its return.
 #[derive(Clone, Copy, Debug, PartialEq, Eq)]
 pub enum What {
-    /// An enqueue of this value was called.
+    /// An enqueue of this value is called.
     CallEnq(u64),
-    /// The queue took the value.
+    /// The enqueue returns: it succeeded.
     RetEnq,
-    /// The queue didn't take the value: it was full or out of memory.
+    /// The enqueue returns: it failed, as the queue was full or out of memory.
     RetNot,
-    /// A dequeue was called.
+    /// A dequeue is called.
     CallDeq,
-    /// The queue gave this value.
+    /// The dequeue returns this value.
     RetDeq(u64),
-    /// The queue was empty.
+    /// The dequeue returns: it found the queue empty.
     RetEmpty,
 }
 
 /// One call or return of one thread, at its ticket.
 ///
-/// Plain data: it may have any ticket and any thread number. `history` of the crate `history_merge` refuses what is
-/// out of range.
+/// This is plain data, with any ticket and any thread number. `history` of the crate `history_merge` rejects those
+/// that are out of range.
 #[derive(Clone, Copy, Debug, PartialEq, Eq)]
 pub struct Event {
     pub ticket: u64,

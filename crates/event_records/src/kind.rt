@@ -1,21 +1,21 @@
-/// What an operation asks the queue for.
+/// The kind of an operation.
 #[derive(Clone, Copy, Debug, PartialEq, Eq)]
 pub enum Kind {
-    /// To take a value in, at the end.
+    /// An enqueue, which puts a value in last.
     Enq,
-    /// To give its first value out.
+    /// A dequeue, which takes the first value out.
     Deq,
 }
 
-/// What a queue may answer.
+/// An answer of a queue.
 #[derive(Clone, Copy, Debug, PartialEq, Eq)]
 pub enum Answer {
-    /// The value of an enqueue was taken.
+    /// The enqueue succeeded.
     Taken,
-    /// The value of an enqueue was not taken: the queue was full or out of memory.
+    /// The enqueue failed: the queue was full or out of memory.
     Not,
-    /// A dequeue got this value.
+    /// The dequeue got this value.
     Got(u64),
-    /// A dequeue found the queue empty.
+    /// The dequeue found the queue empty.
     Empty,
 }

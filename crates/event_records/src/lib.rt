@@ -1,5 +1,5 @@
-//! The events of a recorded run: what one thread called, what the queue answered, and when; and the questions and
-//! answers, each for one use, that they record.
+//! The events of a recorded run: which operation a thread called, how it returned, and when. Also the questions to a
+//! queue and its answers, which are recorded as events and can each be used only once.
 #![tactic(auto)]
 
 mod answers;

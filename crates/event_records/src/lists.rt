@@ -21,21 +21,21 @@ impl Model for Lists {
 }
 
 impl Lists {
-    /// Makes the lists, and takes no memory.
+    /// Makes the lists, without taking memory.
     pub fn from_vec(lists: Vec<Vec<Event>>) -> Lists
         ensures { result ≡ map (λ list. list.items) lists.items }
     {
         Lists { lists }
     }
 
-    /// Returns the lists, and takes no memory.
+    /// Returns the lists, without taking memory.
     pub fn into_vec(self) -> Vec<Vec<Event>>
         ensures { map (λ list. list.items) result.items ≡ self }
     {
         self.lists
     }
 
-    /// Borrows the lists, in the order of their threads.
+    /// Returns the lists, in the order of their threads.
     pub fn as_slice(&self) -> &[Vec<Event>]
         ensures { map (λ list. list.items) result.now ≡ self.now }
     {

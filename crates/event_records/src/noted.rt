@@ -1,4 +1,4 @@
-// Events that a question or a stamp noted.
+// Events noted by a question or a stamp.
 ghost use Rattle.std.specs.Prelude.{◌≡◌};
 
 use crate::event::Event;
@@ -6,7 +6,7 @@ use std::marker::Model;
 
 /// One event that a question or a stamp noted, to be pushed once.
 ///
-/// It is not `Clone`, and only a question or a stamp makes one, so the return that it holds was answered.
+/// It isn't `Clone`, and only a question or a stamp makes one. So a return that it holds was answered.
 #[derive(Debug, Drop)]
 pub struct Noted {
     event: Event,

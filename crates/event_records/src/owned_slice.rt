@@ -4,7 +4,7 @@ use std::marker::Model;
 
 /// Items in order, seen as the list of them.
 ///
-/// Types like the steps of a schedule, or the places of a linearization, are such lists under a name. No call takes
+/// Types like the steps of a schedule, or the places of a linearization, are such lists with a name. No call takes
 /// memory, or more than constant time.
 #[derive(Debug, Drop)]
 pub struct OwnedSlice<T> {
@@ -35,21 +35,21 @@ impl<T> OwnedSlice<T> {
         items
     }
 
-    /// Borrows the items, in order.
+    /// Returns the items, in order.
     pub fn as_slice(&self) -> &[T]
         ensures { result.now ≡ self.now }
     {
         self.items.as_slice()
     }
 
-    /// Returns how many items there are.
+    /// Returns the number of items.
     pub fn len(&self) -> usize
         ensures { result ≡ length self.now }
     {
         self.items.len()
     }
 
-    /// Whether there is no item.
+    /// Returns whether there is no item.
     pub fn is_empty(&self) -> bool
         ensures { IsTrue result ↔ (length self.now ≡ 0) }
     {

@@ -1,4 +1,4 @@
-// The questions that a thread asks, each once and under its own number.
+// The questions of a thread, each asked once and under its own number.
 ghost use Rattle.std.specs.Prelude.{◌≡◌, ◌+◌, ◌<◌};
 ghost use Rattle.event_records.specs.Question.{next_question, call_event, value_name};
 ghost use Rattle.event_records.specs.declared.kind.Kind.TheVariants.{Enq, Deq};
@@ -11,9 +11,9 @@ use crate::thread_no::ThreadNo;
 use std::marker::Model;
 use tickets::Drawn;
 
-/// Numbers the operations of one thread, from 0.
+/// The numbering of one thread's operations, from 0.
 ///
-/// It is not `Clone`, so it gives no number twice.
+/// It isn't `Clone`, so it gives no number twice.
 #[derive(Drop)]
 pub struct Namer {
     thread: ThreadNo,
@@ -28,7 +28,7 @@ impl Model for Namer {
     ghost view = { λ n. record { thread = n.thread; asked = n.asked } };
 }
 
-// What questions of both kinds hold: who asks, which of its operations, and at which call ticket.
+// The common part of both questions: the thread, the number of the operation, and the call ticket.
 #[derive(Drop)]
 struct Asked {
     thread: ThreadNo,
@@ -38,7 +38,7 @@ struct Asked {
 
 /// A question to enqueue the value of its name.
 ///
-/// It is not `Clone`: the queue that answers it uses it up. Contracts see it as plain data, with the key of the
+/// It isn't `Clone`, and the queue that answers it uses it up. Contracts see it as plain data, with the key of the
 /// `Tickets` that drew its call ticket.
 #[derive(Drop)]
 pub struct AskEnq {
@@ -58,7 +58,7 @@ impl Model for AskEnq {
     ghost invariant = { λ q. q.asked.number < NAMES_OF_A_THREAD };
 }
 
-/// A question to dequeue. Like an `AskEnq` it can be used once only.
+/// A question to dequeue. Like an `AskEnq` it can be used only once.
 #[derive(Drop)]
 pub struct AskDeq {
     asked: Asked,
@@ -78,14 +78,14 @@ impl Model for AskDeq {
 }
 
 impl Namer {
-    /// Makes a namer that has asked nothing.
+    /// Makes a namer of a thread that has asked nothing.
     pub fn new(thread: ThreadNo) -> Namer
         ensures { result ≡ record { thread = thread; asked = 0 } }
     {
         Namer { thread, asked: 0 }
     }
 
-    /// Returns how many operations were asked.
+    /// Returns the number of operations asked so far.
     pub fn asked(&self) -> u64
         ensures { result ≡ self.now.asked }
     {
@@ -133,7 +133,7 @@ impl Namer {
 }
 
 impl Asked {
-    // The value of this operation, if it is an enqueue.
+    // Returns the value of this operation, if it is an enqueue.
     fn value(&self) -> u64
         requires { self.now.number < NAMES_OF_A_THREAD }
         ensures { result ≡ value_name self.now.thread self.now.number }
@@ -141,7 +141,7 @@ impl Asked {
         u64::from(self.thread.get()) * NAMES_OF_A_THREAD + self.number
     }
 
-    // The event of this call.
+    // Notes the call event of this operation.
     fn noted(&self, what: What) -> Noted
         ensures { result ≡ record { ticket = self.now.drawn.ticket; thread = self.now.thread; what = what } }
     {
@@ -162,7 +162,7 @@ impl AskEnq {
         self.asked.thread.get()
     }
 
-    /// Returns which operation of its thread it is, from 0.
+    /// Returns the number of the operation in its thread, from 0.
     pub fn number(&self) -> u64
         ensures value { result ≡ self.now.number }
         ensures small { result < NAMES_OF_A_THREAD }
@@ -195,7 +195,7 @@ impl AskDeq {
         self.asked.thread.get()
     }
 
-    /// Returns which operation of its thread it is, from 0.
+    /// Returns the number of the operation in its thread, from 0.
     pub fn number(&self) -> u64
         ensures value { result ≡ self.now.number }
         ensures small { result < NAMES_OF_A_THREAD }

@@ -3,8 +3,8 @@ ghost use Rattle.event_records.specs.Turns.{Alternates, TakesTurns, TicketsRise,
 
 use crate::event::{Event, What};
 
-/// Whether the events of one thread are whole operations in order: calls and returns alternate, a call first and a
-/// return last, each return is of its call's kind, and each ticket is above the one before. No events are.
+/// Returns whether the events of one thread are complete operations in order: calls and returns alternate, a call
+/// first and a return last, each return is of its call's kind, and tickets rise. Returns true if there are no events.
 ///
 /// Takes time in proportion to the events, and no memory.
 pub fn alternates(events: &[Event]) -> bool
@@ -39,7 +39,7 @@ fn tickets_rise(events: &[Event]) -> bool
     true
 }
 
-/// Whether the second is a return of the kind of the first, which is a call.
+/// Returns whether the second is a return of the kind of the first, which is a call.
 pub(crate) fn is_answer(call: What, answer: What) -> bool
     ensures { result ≡ answers call answer }
 {

@@ -1,4 +1,4 @@
--- What contracts see of the two ends of a ring and of a close token.
+-- The two ends of a ring and a close token, as contracts see them.
 use Rattle.std.specs.Prelude.{◌≡◌, ℕ, List, ◌++◌, length}
 use Rattle.std.specs.declared.alloc.Global.{Global}
 use denote.RawPtr.{Ptr}
@@ -9,7 +9,7 @@ use Rattle.rtrb.specs.declared.consumer.Consumer.{Consumer}
 use Rattle.rtrb.specs.declared.finished.Finished.{Finished}
 use Rattle.event_records.specs.declared.event.Event.{Event}
 
--- which ring it is: what the two ends of one ring have in common
+-- the name of a ring, which its two ends have in common
 abbrev pub RingName : Type 0
 RingName = Ptr × Ptr × Names × Global
 
@@ -30,8 +30,8 @@ module _ {T P : Type 0} where
   abbrev pub ring_of_finished : Finished T Global P → RingName
   ring_of_finished f = name_of f.end
 
--- the end that pushes: for how many events the ring has room in all, what was sent, oldest first, and how many more events the end knows to
--- have room for
+-- the end that pushes: the capacity of the ring, the events sent, oldest first, and the number of further events for
+-- which it knows room
 pub record PushView : Type 0 where
   pub ring : RingName
   pub thread : ℕ
@@ -39,20 +39,20 @@ pub record PushView : Type 0 where
   pub sent : List Event
   pub room : ℕ
 
--- the end that drains: all that it has received, oldest first
+-- the end that drains, with all events that it has received, oldest first
 pub record DrainView : Type 0 where
   pub ring : RingName
   pub thread : ℕ
   pub received : List Event
 
--- the end has received `n` events more, and they were appended to a list
+-- the end has received `n` more events, and they were appended to a list
 pub record DrainsInto (n : ℕ) (before after : DrainView) (events events' : List Event) : Type 0 where
   pub drained : List Event
   pub many : length drained ≡ n
   pub received : after ≡ record before { received = before.received ++ drained }
   pub put : events' ≡ events ++ drained
 
--- a closed ring: all that was ever sent
+-- a closed ring, with all events that were ever sent
 pub record TokenView : Type 0 where
   pub ring : RingName
   pub thread : ℕ

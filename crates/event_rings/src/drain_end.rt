@@ -9,7 +9,7 @@ use std::alloc::{AllocError, Global};
 use std::marker::Model;
 use thiserror::Error;
 
-// What a list holds at a place until an event is moved there.
+// The event at a place of a list until another is moved there.
 const BLANK: Event = Event {
     ticket: 0,
     thread: 0,
@@ -33,7 +33,7 @@ impl Model for DrainEnd {
     ghost view = { λ d. record { ring = ring_of_consumer d.consumer; thread = d.thread; received = received d.consumer } };
 }
 
-/// All that was sent through a closed ring and not drained before, oldest first.
+/// All events that were sent through a closed ring and not drained before, oldest first.
 #[derive(Drop)]
 pub struct Sealed {
     events: Vec<Event>,
@@ -48,7 +48,7 @@ impl Model for Sealed {
     ghost view = { λ s. s.events.items };
 }
 
-/// Why a ring was not sealed. What was left in it is lost.
+/// The reason why a ring was not sealed. Events left in it are lost.
 #[derive(Debug, Drop, Error)]
 pub enum FinishFault {
     /// The token is of another thread's ring.
@@ -86,16 +86,16 @@ impl DrainEnd {
         }
     }
 
-    /// Returns the thread whose ring it is.
+    /// Returns the thread of the ring.
     pub fn thread(&self) -> ThreadNo
         ensures { result ≡ self.now.thread }
     {
         self.thread
     }
 
-    /// Takes events out of the ring, oldest first: all that it sees there, but at most `max`.
+    /// Takes all events that it sees in the ring out of it, but at most `max`, oldest first.
     ///
-    /// It reserves memory for them first. If that is refused, they are all still in the ring.
+    /// Memory for them is reserved first. If it runs out, the events are all still in the ring.
     pub fn drain(&mut self, max: usize) -> Result<Vec<Event>, AllocError>
         requires { max ≤ MAX_RING }
         ensures drained { IfOk result (λ events. self.new ≡ record self.old { received = self.old.received ++ events.items }) }
@@ -107,10 +107,10 @@ impl DrainEnd {
         Ok(events)
     }
 
-    /// Takes events out of the ring as `drain` does, appends them to a list, and returns how many.
+    /// Takes events out of the ring as `drain` does, appends them to a list, and returns their number.
     ///
-    /// It reserves memory for what it sees in the ring first. If that is refused, the events are all still in the
-    /// ring. An empty ring takes no memory.
+    /// Memory for the events that it sees in the ring is reserved first. If it runs out, the events are all still in
+    /// the ring. An empty ring takes no memory.
     pub fn drain_into(&mut self, events: &mut Vec<Event>, max: usize) -> Result<usize, AllocError>
         requires { max ≤ MAX_RING }
         ensures drained { IfOk result (λ n. DrainsInto n self.old self.new events.old.items events.new.items) }
@@ -123,10 +123,10 @@ impl DrainEnd {
         Ok(count)
     }
 
-    /// Takes all that is left, certified by the token that closed the ring.
+    /// Takes all events that are left, certified by the token that closed the ring.
     ///
     /// `Uncertified` comes if and only if the token is of another thread's ring, and `Memory` if memory for the
-    /// events that are left is refused. After either the end is gone.
+    /// events that are left runs out. After either the end is gone.
     pub fn finish(self, token: CloseToken) -> Result<Sealed, FinishFault>
         requires { token.thread ≡ self.thread → token.ring ≡ self.ring }
         ensures sealed { IfOk result (λ sealed. self.received ++ sealed ≡ token.sent) }
@@ -152,8 +152,8 @@ impl DrainEnd {
     }
 }
 
-// Moves the next `count` events from the ring to the end of the list. There is room for them before any leaves the
-// ring, and their places are free for the other end all at once.
+// Moves the next `count` events from the ring to the end of the list. Memory for them is reserved before any leaves
+// the ring, and all their places become free for the other end at once.
 fn pop_into(
     consumer: &mut Consumer<Event>,
     events: &mut Vec<Event>,

@@ -1,7 +1,7 @@
 //! A ring of events for each thread: one end pushes, the other drains, and a token closes it.
 //!
-//! Nothing here takes a lock or waits: each step on a ring belongs to one of its two ends. What is received is always
-//! a prefix of what was sent. A close token shows all that was sent, and nothing can be sent after it.
+//! Nothing here takes a lock or waits: each step on a ring belongs to one of its two ends. The events received are
+//! always a prefix of those sent. A close token shows all events that were sent, and nothing can be sent after it.
 #![tactic(auto)]
 
 ghost use Rattle.std.specs.Prelude.{◌≡◌, ◌≤◌, [], IfOk};
@@ -18,7 +18,7 @@ use std::alloc::{AllocError, Global};
 
 /// Makes a ring of a thread, with room for `capacity` events.
 ///
-/// It takes memory for that many events at once, and fails only if that is refused. Pushing takes none.
+/// Takes memory for that many events at once. The only error is out of memory. Pushing takes none.
 pub fn ring(
     alloc: Global,
     thread: ThreadNo,

@@ -1,4 +1,4 @@
-// The end of a ring that a worker pushes into, and the token that closes it.
+// The end of a ring that a worker pushes into, and the token that closes the ring.
 ghost use Rattle.std.specs.Prelude.{◌≡◌};
 
 use event_records::{Event, Noted, ThreadNo};
@@ -31,7 +31,8 @@ impl Model for PushEnd {
     ghost invariant = { λ p. producer_capacity p.producer ≤ known_free p.producer + length (sent p.producer) };
 }
 
-/// Shows all that a thread pushed. Its ring's push end is gone, so nothing is pushed any more.
+/// A token that shows all events that a thread pushed. The push end of its ring is gone, so nothing is pushed any
+/// more.
 #[derive(Drop)]
 pub struct CloseToken {
     thread: ThreadNo,
@@ -47,7 +48,7 @@ impl Model for CloseToken {
     ghost view = { λ t. record { ring = ring_of_finished t.finished; thread = t.thread; sent = all_sent t.finished } };
 }
 
-/// The ring gave no close token. What was pushed is lost.
+/// The error of a ring that gave no close token. The events pushed are lost.
 ///
 /// The ring below gives none if its drain end was dropped before. No contract says so.
 #[derive(Debug, Drop, Error)]
@@ -84,14 +85,14 @@ impl PushEnd {
         PushEnd { thread, producer }
     }
 
-    /// Returns the thread whose ring it is.
+    /// Returns the thread of the ring.
     pub fn thread(&self) -> ThreadNo
         ensures { result ≡ self.now.thread }
     {
         self.thread
     }
 
-    /// Pushes an event of this thread, or gives it back if it sees no room. It takes no memory.
+    /// Pushes an event of this thread, or gives it back if it sees no room. Takes no memory.
     ///
     /// The end looks for room that the other end made only if it knows of none itself. So a push fails only after as
     /// many events were sent as the ring has room for.
@@ -109,9 +110,9 @@ impl PushEnd {
         }
     }
 
-    /// Closes the ring. The token shows all that was sent.
+    /// Closes the ring. The token shows all events that were sent.
     ///
-    /// It takes no memory.
+    /// Takes no memory.
     pub fn close(self) -> Result<CloseToken, CloseLost>
         ensures { IfOk result (λ token. (token.ring ≡ self.ring) × (token.thread ≡ self.thread) × (token.sent ≡ self.sent)) }
     {

@@ -20,27 +20,27 @@ use Rattle.history_merge.proofs.Common.{TicketsRise, was_called, What, zero, ◌
 use Rattle.history_merge.proofs.Common.{◌⊎◌}
 use Rattle.std.proofs.Common.{append_assoc, false, get_or, length-append, List, true, ℕ, ◌<◌, ◌≤◌}
 
--- ---- what an accepted run of the queue enqueued and dequeued
+-- ---- the values enqueued and dequeued in an accepted run of the queue
 
--- the value that an operation puts in, and the one that it takes out
+-- the value that an operation of this kind puts in
 abbrev pub put_in : OpKind → Option ℕ
 put_in (Enq v) = Some v
 put_in _ = None
 
--- the value that an operation takes out
+-- the value that an operation of this kind takes out
 abbrev pub taken_out : OpKind → Option ℕ
 taken_out (Deq v) = Some v
 taken_out _ = None
 
--- the values that accepted enqueues put in, in their order
+-- the values of successful enqueues, in their order
 abbrev pub enqueued : List OpKind → List ℕ
 enqueued kinds = filter_map put_in kinds
 
--- the values that operations dequeue, in turn
+-- the values of dequeues, in their order
 abbrev pub dequeued : List OpKind → List ℕ
 dequeued kinds = filter_map taken_out kinds
 
--- what was in the queue and what was put in is what was taken out and what is left, in the same order
+-- the values held and enqueued are those dequeued and left, in the same order
 pub enqueued_is_dequeued : (kinds : List OpKind) (queue left : List ℕ) → accept_all queue kinds ≡ Some left → queue ++ enqueued kinds ≡ dequeued kinds ++ left
 enqueued_is_dequeued [] queue left run = let same : queue ≡ left = cc in rw same (append-nil left)
 enqueued_is_dequeued (Enq v ∷ kinds) queue left run = sym (append_assoc queue (v ∷ []) (enqueued kinds)) ∙ enqueued_is_dequeued kinds (queue ++ v ∷ []) left run
@@ -49,7 +49,7 @@ enqueued_is_dequeued (Deq v ∷ kinds) (front ∷ rest) left run = grind (arith,
 enqueued_is_dequeued (Empty ∷ kinds) [] left run = enqueued_is_dequeued kinds [] left run
 enqueued_is_dequeued _ _ left run = cc
 
--- before each operation of an accepted run stands a queue that accepts it
+-- before each operation of an accepted run there is a queue that accepts it
 pub record IsQueueBefore (start : List ℕ) (kinds : List OpKind) (i : ℕ) (kind : OpKind) : Type 0 where
   pub queue : List ℕ
   pub next : List ℕ
@@ -60,7 +60,7 @@ accepted_first : (queue : List ℕ) (kind : OpKind) (kinds : List OpKind) (left 
     → (next : List ℕ) × (accept queue kind ≡ Some next) × (accept_all next kinds ≡ Some left)
 accepted_first queue kind kinds left run = grind (arith, option_and_then_some)
 
--- what the queue holds before an operation of an accepted run
+-- the queue before an operation of an accepted run
 pub queue_before : (kinds : List OpKind) (start left : List ℕ) (i : ℕ) (kind : OpKind) → accept_all start kinds ≡ Some left
     → slice_get kinds i ≡ Some kind → IsQueueBefore start kinds i kind
 queue_before [] start left i kind run at = cc
@@ -70,19 +70,19 @@ queue_before (k ∷ kinds) start left (suc i) kind run at =
     let more = queue_before kinds first.0 left i kind first.2 at in
     record { queue = more.queue; next = more.next; reached = rw first.1 more.reached; accepted = more.accepted }
 
--- ---- where in a run the enqueues and dequeues of a value stand
+-- ---- places of a value's enqueues and dequeues in a run
 
 -- the value is in the list
 abbrev pub Member : ℕ → List ℕ → Type 0
 Member v [] = ⊥
 Member v (x ∷ xs) = (x ≡ v) ⊎ Member v xs
 
--- what stands in the second of two lists stands in both together
+-- a member of the second list is one of both lists joined
 pub Member-right : (v : ℕ) (xs ys : List ℕ) → Member v ys → Member v (xs ++ ys)
 Member-right v [] ys m = m
 Member-right v (x ∷ xs) ys m = inr (Member-right v xs ys m)
 
--- before place j stands an operation of this kind
+-- an operation of this kind comes before place j
 abbrev pub StandsBefore : List OpKind → ℕ → OpKind → Type 0
 StandsBefore kinds j kind = (i : ℕ) × (i < j) × (slice_get kinds i ≡ Some kind)
 
@@ -97,7 +97,7 @@ module _ (gives : OpKind → Option ℕ) where
   more_given k kinds j v (Some w) is (inl same) later = (k, is ∙ ap Some same, (zero, omega arith, refl))
   more_given k kinds j v (Some w) is (inr m) later = let l = later m in (l.0, l.1, one_later k kinds j l.0 l.2)
 
-  -- a value that operations before place j gave was given by one there
+  -- a value given before place j was given by an operation there
   giver_of_member : (kinds : List OpKind) (j v : ℕ) → Member v (filter_map gives (take j kinds))
       → (k : OpKind) × (gives k ≡ Some v) × StandsBefore kinds j k
   giver_of_member kinds zero v m = elim m [ ]
@@ -109,7 +109,7 @@ module _ (gives : OpKind → Option ℕ) where
   further None v all some is = is
   further (Some w) v all some is = (is.0, ap (λ us. w ∷ us) is.1)
 
-  -- what operations before place j gave, split at one that stands there
+  -- the values given before place j, split at an operation before it
   split_at_giver : (kinds : List OpKind) (i j v : ℕ) (k : OpKind) → gives k ≡ Some v → i < j → slice_get kinds i ≡ Some k
       → (rest : List ℕ) × (filter_map gives (take j kinds) ≡ filter_map gives (take i kinds) ++ v ∷ rest)
   split_at_giver kinds i zero v k gave below at = absurd (omega arith)
@@ -120,71 +120,71 @@ module _ (gives : OpKind → Option ℕ) where
   split_at_giver (x ∷ kinds) (suc i) (suc j) v k gave below at =
       further (gives x) v _ _ (split_at_giver kinds i j v k gave (omega arith) at)
 
--- only an enqueue puts in
+-- only an enqueue puts a value in
 pub put_in_by : (k : OpKind) (v : ℕ) → put_in k ≡ Some v → k ≡ Enq v
 put_in_by k v e = grind arith
 
--- only a dequeue takes out
+-- only a dequeue takes a value out
 taken_out_by : (k : OpKind) (v : ℕ) → taken_out k ≡ Some v → k ≡ Deq v
 taken_out_by k v e = grind arith
 
--- a value that was put in before place j was put in by an enqueue there
+-- a value that was enqueued before place j has an enqueue there
 pub enqueue_of_member : (kinds : List OpKind) (j v : ℕ) → Member v (enqueued (take j kinds)) → StandsBefore kinds j (Enq v)
 enqueue_of_member kinds j v m = grind (arith, giver_of_member, put_in_by)
 
--- a value that was dequeued has its dequeue before
+-- a value that was dequeued before place j has a dequeue there
 pub dequeue_of_member : (kinds : List OpKind) (j v : ℕ) → Member v (dequeued (take j kinds)) → StandsBefore kinds j (Deq v)
 dequeue_of_member kinds j v m = grind (arith, giver_of_member, taken_out_by)
 
--- what was put in before place j, split at an enqueue before it
+-- the values enqueued before place j, split at an enqueue before it
 pub split_at_enqueue : (kinds : List OpKind) (i j v : ℕ) → i < j → slice_get kinds i ≡ Some (Enq v)
     → (rest : List ℕ) × (enqueued (take j kinds) ≡ enqueued (take i kinds) ++ v ∷ rest)
 split_at_enqueue kinds i j v below at = split_at_giver put_in kinds i j v (Enq v) refl below at
 
--- what was taken out before place j, split at a dequeue before it
+-- the values dequeued before place j, split at a dequeue before it
 pub split_at_dequeue : (kinds : List OpKind) (i j v : ℕ) → i < j → slice_get kinds i ≡ Some (Deq v)
     → (rest : List ℕ) × (dequeued (take j kinds) ≡ dequeued (take i kinds) ++ v ∷ rest)
 split_at_dequeue kinds i j v below at = split_at_giver taken_out kinds i j v (Deq v) refl below at
 
--- how often a value stands in a list
+-- the number of times that a value is in a list
 abbrev pub count : ℕ → List ℕ → ℕ
 count v [] = 0
 count v (x ∷ xs) = cond (nat_eq x v) 1 0 + count v xs
 
--- how often a value stands in two lists together
+-- the count of a value in two lists joined
 pub count-append : (v : ℕ) (xs ys : List ℕ) → count v (xs ++ ys) ≡ count v xs + count v ys
 count-append v [] ys = omega arith
 count-append v (x ∷ xs) ys = let more = count-append v xs ys in omega arith
 
--- how often a value stands in a list that begins with it
+-- the count of a value in a list that begins with it
 pub count_here : (v : ℕ) (xs : List ℕ) → count v (v ∷ xs) ≡ 1 + count v xs
 count_here v xs = rw (eq-eqb v v refl)
 
--- how many calls of enqueues of the value there are, accepted or refused
+-- the number of calls to enqueue the value, successful or failed, of an operation of this kind
 abbrev pub calls_of_kind : ℕ → OpKind → ℕ
 calls_of_kind v (Enq w) = cond (nat_eq w v) 1 0
 calls_of_kind v (Not w) = cond (nat_eq w v) 1 0
 calls_of_kind v (Deq w) = 0
 calls_of_kind v Empty = 0
 
--- how many enqueues of a value there are
+-- the number of calls to enqueue a value
 abbrev pub calls : ℕ → List OpKind → ℕ
 calls v [] = 0
 calls v (k ∷ kinds) = calls_of_kind v k + calls v kinds
 
--- a value was enqueued at most as often as it is called
+-- a value is enqueued no more often than called for
 pub count-le-calls : (kinds : List OpKind) (j v : ℕ) → count v (enqueued (take j kinds)) ≤ calls v kinds
 count-le-calls kinds zero v = omega arith
 count-le-calls [] (suc j) v = omega arith
 count-le-calls (k ∷ kinds) (suc j) v = grind (arith, count-le-calls kinds j v)
 
--- an enqueue of a value is one of its calls
+-- an operation that calls for a value is counted
 pub one_call : (kinds : List OpKind) (i v : ℕ) (k : OpKind) → slice_get kinds i ≡ Some k → calls_of_kind v k ≡ 1 → 1 ≤ calls v kinds
 one_call [] i v k at is = cc
 one_call (x ∷ kinds) zero v k at is = grind arith
 one_call (x ∷ kinds) (suc i) v k at is = omega (arith, one_call kinds i v k at is)
 
--- if a value is called for once, its call has one place
+-- the only call for a value has only one place
 pub same_place : (kinds : List OpKind) (i j v : ℕ) (k l : OpKind) → slice_get kinds i ≡ Some k → slice_get kinds j ≡ Some l → calls_of_kind v k ≡ 1
     → calls_of_kind v l ≡ 1 → calls v kinds ≤ 1 → i ≡ j
 same_place [] i j v k l at_i at_j is_k is_l once = cc
@@ -193,29 +193,29 @@ same_place (x ∷ kinds) zero (suc j) v k l at_i at_j is_k is_l once = grind (ar
 same_place (x ∷ kinds) (suc i) zero v k l at_i at_j is_k is_l once = grind (arith, one_call kinds i v k at_i is_k)
 same_place (x ∷ kinds) (suc i) (suc j) v k l at_i at_j is_k is_l once = ap suc (same_place kinds i j v k l at_i at_j is_k is_l (omega arith))
 
--- a value that stands once in a list splits it one way
+-- a value that is in a list once splits it in only one way
 pub same_front : (us vs xs ys : List ℕ) (b : ℕ) → us ++ b ∷ vs ≡ xs ++ b ∷ ys → count b (us ++ b ∷ vs) ≤ 1 → us ≡ xs
 same_front [] vs [] ys b same once = refl
 same_front [] vs (x ∷ xs) ys b same once = grind (arith, count-append, count_here)
 same_front (u ∷ us) vs [] ys b same once = grind (arith, count-append, count_here)
 same_front (u ∷ us) vs (x ∷ xs) ys b same once = grind (arith, same_front us vs xs ys b (cc))
 
--- ---- what the operations of a complete history have in common
+-- ---- properties of the operations of a complete history
 
--- what `find` gives stands at some place
+-- the element that `find` gives has a place
 pub place_of_find : {X : Type 0} (p : X → Bool) (xs : List X) (r : X) → find p xs ≡ Some r → (k : ℕ) × (k < length xs) × ((d : X) → get_or xs k d ≡ r)
 place_of_find p xs r e =
     let at = sym (find_at p xs) ∙ e in
     (position_or_len p xs, slice_get_within xs _ r at, λ d. get_or_from_slice_get xs _ r d at)
 
--- the parts of an operation that a call and its answer make
+-- the parts of an operation that come from its call and its return
 pub record IsMadeOf (call answer : Event) (o : Operation) : Type 0 where
   pub called : o.call ≡ call.ticket
   pub returned : o.ret ≡ answer.ticket
   pub same_thread : o.thread ≡ call.thread
   pub kind : kind_of call.what answer.what ≡ Some o.kind
 
--- an operation is made of its call and its answer
+-- an operation is made of its call and its return
 pub made_of : (call : Event) (found : Option Event) (o : Operation) → operation_of call found ≡ Some o
     → (answer : Event) × (found ≡ Some answer) × IsMadeOf call answer o
 made_of call None o e = cc
@@ -239,7 +239,7 @@ calls_before_returns (e ∷ later) rise =
         let ordered : o.call < o.ret = omega (arith, made.2.called, made.2.returned) in
         All-cons (λ o. o.call < o.ret) o (operations_of later) ordered rest
 
--- an enqueue of a value is called no more often than its value is among the calls
+-- a value is called for no more often than it is among the values of the calls
 calls-operations_of : (v : ℕ) (events : List Event) → calls v (map (λ o. o.kind) (operations_of events)) ≤ count v (called_values events)
 calls-operations_of v [] = omega arith
 calls-operations_of v (e ∷ later) = grind (arith, calls-operations_of v later)
@@ -249,7 +249,7 @@ none_counted v [] none = refl
 none_counted v (x ∷ xs) none =
     grind (arith, nat_tests, none_counted v xs (λ k d below. none (suc k) d (omega arith)), none zero 0 (omega arith))
 
--- in a list of distinct values each stands once
+-- in a list of distinct values each value has the count 1 at most
 pub count_of_distinct : (v : ℕ) (xs : List ℕ) → AllPairs (λ x y. x ≢ y) xs → count v xs ≤ 1
 count_of_distinct v [] distinct = omega arith
 count_of_distinct v (x ∷ xs) distinct =
@@ -259,11 +259,11 @@ count_of_distinct v (x ∷ xs) distinct =
       | inr h ↦ rw h.0 (omega arith)
     ]
 
--- each value is called for by one enqueue of a complete history at most
+-- each value is called for by at most one enqueue of a complete history
 pub called_once : (events : List Event) (v : ℕ) → IsCompleteHistory events → calls v (map (λ o. o.kind) (operations_of events)) ≤ 1
 called_once events v complete = grind (arith, count_of_distinct, calls-operations_of)
 
--- a call for a value is that of an enqueue, accepted or refused
+-- a call for a value is that of an enqueue, successful or failed
 calls_or_not : (v : ℕ) (k : OpKind) → ((calls_of_kind v k ≡ 1) × (enqueued_value k ≡ Some v)) ⊎ (calls_of_kind v k ≡ 0)
 calls_or_not v (Enq w) = elim (eqb_tells w v) [ inl h ↦ inl (rw h.0 refl, ap (λ x. Some x) h.1) | inr h ↦ inr (rw h.0 refl) ]
 calls_or_not v (Not w) = elim (eqb_tells w v) [ inl h ↦ inl (rw h.0 refl, ap (λ x. Some x) h.1) | inr h ↦ inr (rw h.0 refl) ]
@@ -276,7 +276,7 @@ none_called v (x ∷ xs) none =
     let rest = none_called v xs (All-tail (λ o. ¬ (enqueued_value o.kind ≡ Some v)) x xs none) in
     grind (arith, nat_tests, calls_or_not, All-head, none_called v xs)
 
--- of operations that come apart one at most calls for a value
+-- at most one of some operations that are apart calls for a value
 pub one_calls : (v : ℕ) (xs : List Operation) → AllPairs AreApart xs → calls v (map (λ o. o.kind) xs) ≤ 1
 one_calls v [] apart = omega arith
 one_calls v (x ∷ xs) apart =
@@ -287,7 +287,7 @@ one_calls v (x ∷ xs) apart =
       | inr h ↦ omega arith
     ]
 
--- another order of the operations calls for each value as often
+-- a permutation of the operations calls for each value as often
 pub calls-IsPermutation : (v : ℕ) (xs ys : List Operation) → IsPermutation xs ys → calls v (map (λ o. o.kind) ys) ≡ calls v (map (λ o. o.kind) xs)
 calls-IsPermutation v xs ys moved =
     let as_sum : (kinds : List OpKind) → calls v kinds ≡ sum_by (calls_of_kind v) kinds = is_sum_by (calls v) (calls_of_kind v) refl (λ x xs. refl) in
@@ -300,33 +300,33 @@ few_operations (e ∷ later) = grind (arith, few_operations later)
 
 -- ---- Different operations of a complete history have different tickets, and enqueue different values
 
--- what a list contains is its first element, or the rest contains it
+-- an element of a list is the first one or one of the rest
 pub contains_cons : {X : Type 0} (x : X) (xs : List X) (y : X) → Contains (x ∷ xs) y → (x ≡ y) ⊎ Contains xs y
 contains_cons x xs y (zero, below, same) = inl same
 contains_cons x xs y (suc k, below, same) = inr (k, omega arith, same)
 
--- nothing stands in no list
+-- the empty list has no element
 pub not_in_none : {X : Type 0} (x : X) → ¬ (Contains [] x)
 not_in_none x among = let below = among.1 in omega arith
 
--- an element of a list stands at some place
+-- each element of a list has a place
 pub place_of : {X : Type 0} (xs : List X) (x : X) → Contains xs x → (i : ℕ) × (slice_get xs i ≡ Some x)
 place_of xs x among = (among.0, slice_get_read xs (length xs) among.0 x refl among.1 (sym among.2))
 
--- what stands at a place stands in the list
+-- the element at a place is in the list
 pub contains_at : {X : Type 0} (xs : List X) (i : ℕ) (x : X) → slice_get xs i ≡ Some x → Contains xs x
 contains_at xs i x at = (i, slice_get_within xs i x at, get_or_from_slice_get xs i x x at)
 
--- what holds of each two elements holds of those at two places
+-- a relation of all pairs holds of the elements at two places
 pub pairs_at : {X : Type 0} (R : X → X → Type 0) (xs : List X) (i j : ℕ) (x y : X) → AllPairs R xs → i < j → slice_get xs i ≡ Some x
     → slice_get xs j ≡ Some y → R x y
 pairs_at R xs i j x y pairs below at_i at_j = grind (arith, slice_get_within, get_or_from_slice_get)
 
--- one element stands at a place
+-- a place has only one element
 pub one_at : {X : Type 0} (xs : List X) (i : ℕ) (x y : X) → slice_get xs i ≡ Some x → slice_get xs i ≡ Some y → x ≡ y
 one_at xs i x y at_x at_y = sym (get_or_from_slice_get xs i x x at_x) ∙ get_or_from_slice_get xs i y x at_y
 
--- elements with one key, where keys rise, are one, at one place
+-- if keys rise, elements with the same key are the same, at the same place
 pub one_by_key : {X : Type 0} (key : X → ℕ) (xs : List X) (i j : ℕ) (x y : X) → AllPairs (λ a b. key a < key b) xs → slice_get xs i ≡ Some x
     → slice_get xs j ≡ Some y → key x ≡ key y → (i ≡ j) × (x ≡ y)
 one_by_key key xs i j x y rise at_x at_y same = elim (cases_order i j) [
@@ -335,14 +335,14 @@ one_by_key key xs i j x y rise at_x at_y same = elim (cases_order i j) [
   | inr (inr above) ↦ let less = pairs_at (λ a b. key a < key b) xs j i y x rise above at_y at_x in absurd (omega (arith, less, same))
 ]
 
--- what `find` gives is the first that passes
+-- the element that `find` gives is the first that passes
 pub record IsFirstOf {X : Type 0} (p : X → Bool) (xs : List X) (r : X) : Type 0 where
   pub place : ℕ
   pub at : slice_get xs place ≡ Some r
   pub passes : p r ≡ true
   pub first : (k : ℕ) (x : X) → k < place → slice_get xs k ≡ Some x → p x ≡ false
 
--- what is found is the first that passes
+-- the element found is the first that passes
 pub found_first : {X : Type 0} (p : X → Bool) (xs : List X) (r : X) → find p xs ≡ Some r → IsFirstOf p xs r
 found_first p xs r e =
     let at = sym (find_at p xs) ∙ e in
@@ -363,12 +363,12 @@ pub record IsTraced (events : List Event) (o : Operation) : Type 0 where
   pub same_thread : answer.thread ≡ call.thread
   pub none_between : (k : ℕ) (e : Event) → called_at < k → k < returned_at → slice_get events k ≡ Some e → nat_eq e.thread call.thread ≡ false
 
--- what a list and perhaps one element before it contain
+-- an element of a list with an optional first element is that one or one of the list
 pub contains_cons_option : {X : Type 0} (o : Option X) (xs : List X) (x : X) → Contains (cons_option o xs) x → (o ≡ Some x) ⊎ Contains xs x
 contains_cons_option None xs x among = inr among
 contains_cons_option (Some y) xs x among = elim (contains_cons y xs x among) [ inl same ↦ inl (ap (λ z. Some z) same) | inr there ↦ inr there ]
 
--- an operation is that of an event and of the next one of its thread
+-- an operation is that of an event and the next one of its thread
 of_event : (events : List Event) (o : Operation) → Contains (operations_of events) o
     → (i : ℕ) × (e : Event) × (slice_get events i ≡ Some e)
     × (operation_of e (find (λ r. nat_eq r.thread e.thread) (drop (suc i) events)) ≡ Some o)
@@ -385,7 +385,7 @@ slice_get-drop (x ∷ xs) zero i j is = ap (slice_get (x ∷ xs)) (omega arith)
 slice_get-drop (x ∷ xs) (suc n) i zero is = absurd (omega arith)
 slice_get-drop (x ∷ xs) (suc n) i (suc j) is = slice_get-drop xs n i j (omega arith)
 
--- an operation comes of a call and a return
+-- an operation comes from a call and a return
 pub traced : (events : List Event) (o : Operation) → Contains (operations_of events) o → IsTraced events o
 traced events o among =
     let of = of_event events o among in
@@ -405,7 +405,7 @@ traced events o among =
           next.first (k - suc of.0) e (omega (arith, above, below)) (slice_get-drop events (suc of.0) _ k (omega (arith, above)) ∙ at);
     }
 
--- events with one ticket are one event, at one place
+-- events with the same ticket are the same, at the same place
 pub same_event : (events : List Event) (i j : ℕ) (e r : Event) → TicketsRise events → slice_get events i ≡ Some e → slice_get events j ≡ Some r
     → e.ticket ≡ r.ticket → i ≡ j
 same_event events i j e r rise at_i at_j same = (one_by_key (λ x. x.ticket) events i j e r rise at_i at_j same).0
@@ -440,7 +440,7 @@ module _ (events : List Event) (rise : TicketsRise events) where
     | inr (inr above) ↦ absurd (not_called_between y x ty tx (sym same) above)
   ]
 
--- tickets of the events after the first rise as well
+-- the tickets of the events after the first rise too
 pub rises_later : (e : Event) (later : List Event) → TicketsRise (e ∷ later) → TicketsRise later
 rises_later e later rise i j d below within = rise (suc i) (suc j) d (omega arith) (omega arith)
 
@@ -464,7 +464,7 @@ kind_at xs i o at = slice_get-map (λ o. o.kind) xs i ∙ ap (option_map (λ o. 
 calls_for : (v : ℕ) (k : OpKind) → enqueued_value k ≡ Some v → calls_of_kind v k ≡ 1
 calls_for v k is = grind (arith, eq-eqb)
 
--- each operation of a complete history returns after its call and at a ticket
+-- each operation of a complete history returns after its call, and at a ticket in range
 pub each_timed : (events : List Event) → IsCompleteHistory events → All (λ o. (o.call < o.ret) × (o.ret ≤ MAX_TICKET)) (operations_of events)
 each_timed events complete k d below =
     let o = get_or (operations_of events) k d in
@@ -472,18 +472,18 @@ each_timed events complete k d below =
     let less = pairs_at (λ x y. x.ticket < y.ticket) events t.called_at t.returned_at t.call t.answer complete.tickets_rise t.in_order t.at_call t.at_return in
     grind (arith, All-contains, contains_at)
 
--- so does one of them
+-- an operation of a complete history returns after its call, and at a ticket in range
 pub operation_within : (events : List Event) (o : Operation) → IsCompleteHistory events → Contains (operations_of events) o
     → (o.call < o.ret) × (o.ret ≤ MAX_TICKET)
 operation_within events o complete among = grind (arith, All-contains, each_timed)
 
--- none of them returns with the ticket of a call
+-- no operation of a complete history returns with the ticket of a call
 pub returns_at_no_call : (events : List Event) (x y : Operation) → IsCompleteHistory events → Contains (operations_of events) x
     → Contains (operations_of events) y → x.ret ≢ y.call
 returns_at_no_call events x y complete in_x in_y =
     return_is_no_call events complete.tickets_rise x y (traced events x in_x) (traced events y in_y)
 
--- operations of a complete history come apart
+-- the operations of a complete history are apart
 pub all_apart : (events : List Event) → IsCompleteHistory events → AllPairs AreApart (operations_of events)
 all_apart events complete i j d below within =
     let operations = operations_of events in
@@ -511,7 +511,7 @@ operations_are_complete events complete = grind (arith, each_timed, all_apart)
 
 module _ (operations : List Operation) (x y : Operation) (complete : AreComplete operations) (in_x : Contains operations x)
     (in_y : Contains operations y) where
-  -- two operations are one or come apart
+  -- two operations are equal or apart
   one_or_apart : (x ≡ y) ⊎ (AreApart x y ⊎ AreApart y x)
   one_or_apart =
       let at_x = place_of operations x in_x in
@@ -522,19 +522,19 @@ module _ (operations : List Operation) (x y : Operation) (complete : AreComplete
         | inr (inr above) ↦ inr (inr (pairs_at AreApart operations at_y.0 at_x.0 y x complete.apart above at_y.1 at_x.1))
       ]
 
-  -- operations that are called at one time are one
+  -- operations that are called at the same time are equal
   pub same_call : x.call ≡ y.call → x ≡ y
   same_call same = grind (arith, one_or_apart)
 
-  -- operations that return at one time are one
+  -- operations that return at the same time are equal
   pub same_return : x.ret ≡ y.ret → x ≡ y
   same_return same = grind (arith, one_or_apart)
 
-  -- where one returns at the call of another, they are one
+  -- if one operation returns at the call of another, they are equal
   pub returns_at_call : x.ret ≡ y.call → x ≡ y
   returns_at_call same = grind (arith, one_or_apart, All-contains)
 
--- an operation is called by its return
+-- no operation is called after its return
 pub call_by_return : (operations : List Operation) (o : Operation) → AreComplete operations → Contains operations o → o.call ≤ o.ret
 call_by_return operations o complete among = (All-contains IsTimed operations o complete.timed among).returns_late
 
@@ -543,11 +543,11 @@ pub call_before_return : (operations : List Operation) (o : Operation) → AreCo
     → ((v : ℕ) → o.kind ≢ Enq v) → o.call < o.ret
 call_before_return operations o complete among = (All-contains IsTimed operations o complete.timed among).takes_time
 
--- what did something else is no successful enqueue
+-- an operation of another kind is no successful enqueue
 pub no_enqueue : (o : Operation) (k : OpKind) → o.kind ≡ k → put_in k ≡ None → (v : ℕ) → o.kind ≢ Enq v
 no_enqueue o k is none v same = let clash : None ≡ Some v = sym none ∙ ap put_in (sym is ∙ same) in cc
 
--- nothing returns when an operation that is no successful enqueue is called
+-- no operation returns at the call of one that is no successful enqueue
 pub return_differs_from_call : (operations : List Operation) (x y : Operation) → AreComplete operations → Contains operations x
     → Contains operations y → ((v : ℕ) → y.kind ≢ Enq v) → x.ret ≢ y.call
 return_differs_from_call operations x y complete in_x in_y other same =
@@ -558,7 +558,7 @@ return_differs_from_call operations x y complete in_x in_y other same =
 pub return_in_range : (operations : List Operation) (o : Operation) → AreComplete operations → Contains operations o → o.ret ≤ MAX_TIME
 return_in_range operations o complete among = (All-contains IsTimed operations o complete.timed among).in_range
 
--- the operation calls to enqueue this value, accepted or refused
+-- the operation calls to enqueue this value, successfully or not
 abbrev pub CallsFor : Operation → ℕ → Type 0
 CallsFor o v = (o.kind ≡ Enq v) ⊎ (o.kind ≡ Not v)
 
@@ -566,7 +566,7 @@ called_value_of : (o : Operation) (v : ℕ) → CallsFor o v → enqueued_value 
 called_value_of o v (inl e) = ap enqueued_value e
 called_value_of o v (inr e) = ap enqueued_value e
 
--- calls to enqueue one value are one
+-- operations that call to enqueue the same value are equal
 pub same_value_call : (operations : List Operation) (x y : Operation) (v : ℕ) → AreComplete operations → Contains operations x → Contains operations y
     → CallsFor x v → CallsFor y v → x ≡ y
 same_value_call operations x y v complete in_x in_y for_x for_y = elim (one_or_apart operations x y complete in_x in_y) [
@@ -575,26 +575,26 @@ same_value_call operations x y v complete in_x in_y for_x for_y = elim (one_or_a
   | inr (inr apart) ↦ absurd (apart.values_apart v (called_value_of y v for_y) (called_value_of x v for_x))
 ]
 
--- enqueues of one value are one
+-- enqueues of the same value are equal
 pub same_enqueue : (operations : List Operation) (x y : Operation) (v : ℕ) → AreComplete operations → Did operations x (Enq v)
     → Did operations y (Enq v) → x ≡ y
 same_enqueue operations x y v complete did_x did_y = same_value_call operations x y v complete did_x.0 did_y.0 (inl did_x.1) (inl did_y.1)
 
 -- ---- values that no two calls share, and initial values
 
--- ---- initial values: distinct so far, or the first that stands twice
+-- ---- initial values: distinct so far, or the first that equals an earlier one
 
--- a value that isn't there yet
+-- values stay distinct with one that isn't among them yet
 pub distinct_more : (values : List ℕ) (v : ℕ) → AreDistinct values → is_initial values v ≡ false → AreDistinct (values ++ v ∷ [])
 distinct_more values v distinct new = all_pairs_push (λ x y. x ≢ y) values v distinct
     (λ k d below same. false≢true (sym new ∙ list_any_at (λ w. nat_eq w v) values k d below (eq-eqb _ _ same)))
 
--- a value that is there
+-- a value that is among the earlier ones is the fault of the initial values
 pub twice_at : (initial : List ℕ) (j v : ℕ) → slice_get initial j ≡ Some v → AreDistinct (take j initial) → is_initial (take j initial) v ≡ true
     → HasRefusedInitial initial (InitialTwice j)
 twice_at initial j v here distinct there = grind (arith, Any-from_list_any, eqb-true, get_or_default)
 
--- if a value stands twice before place n, the values before it aren't distinct
+-- if a value before place n equals an earlier one, the values before it aren't distinct
 pub twice_before : (initial : List ℕ) (j n : ℕ) → j < n → AreDistinct (take n initial) → IsFirstTwice initial j → ⊥
 twice_before initial j n below distinct (before, (v, here, earlier)) =
     let inside = slice_get_within initial j v here in
@@ -605,12 +605,12 @@ twice_before initial j n below distinct (before, (v, here, earlier)) =
     (get_or-take n initial earlier.0 v (omega arith) ∙ sym (get_or-take j initial earlier.0 v low) ∙ earlier.2
     ∙ sym (get_or_from_slice_get initial j v v here) ∙ sym (get_or-take n initial j v below))
 
--- of distinct values none stands twice
+-- distinct values have no value twice
 pub twice_not_distinct : (initial : List ℕ) (j : ℕ) → AreDistinct initial → IsFirstTwice initial j → ⊥
 twice_not_distinct initial j distinct twice =
     grind (arith, nat_tests, common_steps, gets, slice_get_within, twice_before, take_all)
 
--- of a history that is complete from its initial values, these are distinct
+-- the initial values of a complete history are distinct
 pub initial_distinct : (initial : List ℕ) (events : List Event) → IsCompleteFrom initial events → AreDistinct initial
 initial_distinct initial events complete i j d below inside same = grind (arith, length-append, get_or_append_left)
 
@@ -625,24 +625,24 @@ was_called_is : (events : List Event) (v : ℕ) → was_called events v ≡ list
 was_called_is [] v = refl
 was_called_is (e ∷ events) v = grind (arith, was_called_is events v)
 
--- what a list contains, it contains behind one that there may be
+-- an element of a list is one of the list with an optional first element
 pub behind_option : {X : Type 0} (o : Option X) (xs : List X) (x : X) → Contains xs x → Contains (cons_option o xs) x
 behind_option None xs x among = among
 behind_option (Some y) xs x among = (suc among.0, omega (arith, among.1), among.2)
 
--- the value that an event calls with is among those of the calls
+-- the value that an event calls with is among the values of the calls
 pub value_called : (events : List Event) (i : ℕ) (e : Event) (w : ℕ) → slice_get events i ≡ Some e → called_value e.what ≡ Some w
     → Contains (called_values events) w
 value_called [] i e w at is = cc
 value_called (x ∷ events) zero e w at is = grind (arith, same_Some)
 value_called (x ∷ events) (suc i) e w at is = behind_option (called_value x.what) (called_values events) w (value_called events i e w at is)
 
--- the same of a value that may be initial too
+-- whether a value was called for or is initial
 pub known_is : (initial : List ℕ) (events : List Event) (v : ℕ)
     → (was_called events v || is_initial initial v) ≡ list_any (λ w. nat_eq w v) (initial ++ called_values events)
 known_is initial events v = grind (arith, or_comm, was_called_is, list_any-append)
 
--- the initial values and those of the calls stay distinct with a call of a new value
+-- the initial values and those of the calls stay distinct with a call for a new value
 pub distinct_push : (initial : List ℕ) (events : List Event) (e : Event) → AreDistinct (initial ++ called_values events)
     → (repeats_value events e || calls_initial initial e) ≡ false → AreDistinct (initial ++ called_values (events ++ e ∷ []))
 distinct_push initial events e distinct new =
@@ -657,7 +657,7 @@ distinct_push initial events e distinct new =
     join None new' = rw append-nil distinct
     join (Some v) new' = distinct_more values v distinct (sym (known_is initial events v) ∙ new')
 
--- a call between others has a new value if the initial values and all of the calls differ
+-- a call between others has a new value if all initial and called values are distinct
 pub new_from_distinct : (initial : List ℕ) (before later : List Event) (e : Event) → AreDistinct (initial ++ called_values (before ++ e ∷ later))
     → (repeats_value before e || calls_initial initial e) ≡ false
 new_from_distinct initial before later e distinct = join (called_value e.what) (rw (filter_map-append (λ x. called_value x.what) before (e ∷ later)) at distinct)
@@ -679,7 +679,7 @@ new_from_distinct initial before later e distinct = join (called_value e.what) (
             subst AreDistinct (sym (append_assoc initial (called_values before) (v ∷ called_values later))) distinct'
             there.0 (length values) there.1 there.2 within (here ∙ there.3 ∙ eqb-true _ _ there.4 ∙ sym own)
 
--- what holds of each place below i, and of i, holds of each place below i + 1
+-- a property of each place below i, and of i, holds of each place below i + 1
 pub each_more : {X : Type 0} (P : ℕ → X → Type 0) (xs : List X) (i : ℕ) (x : X) → slice_get xs i ≡ Some x → P i x
     → ((k : ℕ) (y : X) → k < i → slice_get xs k ≡ Some y → P k y) → (k : ℕ) (y : X) → k < i + 1 → slice_get xs k ≡ Some y → P k y
 each_more P xs i x here holds before k y below at_k = grind (arith, cases_lt, one_at)

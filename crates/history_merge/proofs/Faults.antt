@@ -29,9 +29,9 @@ use Rattle.history_merge.specs.declared.clash.Clash.TheVariants as clash
 
 -- ---- a list of events is a complete history if and only if it has no fault
 
--- ---- the kinds of faults: the six of an event are alike, and each of the three others stands alone
+-- ---- the kinds of faults: six faults of an event, and three others
 
--- a fault of the event at place i, whichever of the six it is: what it means that it is the first, and that it is one at its place
+-- a fault of the event at place i is the first if and only if it is the first at its place
 pub record IsOfEvent (i : ℕ) (fault : HistoryFault) : Type 0 where
   pub first : (initial : List ℕ) (events : List Event) → IsFirstFault initial events fault ↔ IsFirstFaultAt initial events i fault
   pub place : (initial : List ℕ) (before : List Event) (k : ℕ) (e : Event) → fault_at initial before k e ≡ Some fault → k ≡ i
@@ -39,7 +39,7 @@ pub record IsOfEvent (i : ℕ) (fault : HistoryFault) : Type 0 where
 same : (A : Type 0) → A ↔ A
 same A = (λ a. a, λ a. a)
 
--- what holds of each fault of an event, and of the three others, holds of every fault
+-- a property of each fault of an event, and of the three others, holds of every fault
 pub by_kind : (P : HistoryFault → Type 0) → ((i : ℕ) (fault : HistoryFault) → IsOfEvent i fault → P fault) → ((ticket : ℕ) → P (Pending ticket))
     → P Memory → ((j : ℕ) → P (InitialTwice j)) → (fault : HistoryFault) → P fault
 by_kind P at pending memory twice (TicketOrder i) = at i _ (record { first = λ _ _. same _; place = λ initial before k e is. grind arith })
@@ -79,9 +79,9 @@ first_fault_at initial events i fault = by_kind (λ f. IsFirstFaultAt initial ev
     (λ ticket found. absurd (let other = found.2.2 in grind arith)) (λ found. tt)
     (λ j found. absurd (let other = found.2.2 in grind arith)) fault
 
--- ---- no fault, hence a complete history
+-- ---- events without a fault are a complete history
 
--- events without a fault, of which some calls may be pending
+-- events without a fault, some calls of which may be pending
 pub record IsSound (initial : List ℕ) (events : List Event) : Type 0 where
   pub tickets_rise : TicketsRise events
   pub tickets_in_range : All (λ e. e.ticket ≤ MAX_TICKET) events
@@ -89,12 +89,12 @@ pub record IsSound (initial : List ℕ) (events : List Event) : Type 0 where
   pub values_are_distinct : AreDistinct (initial ++ called_values events)
   pub turns : (thread : ℕ) → TurnsSoFar (projection thread events)
 
--- the last event is the one at the last place
+-- the last event is that at the last place
 last_is : (o : Option Event) (e : Event) (events : List Event) (d : Event) → last_or o (e ∷ events) ≡ Some (get_or (e ∷ events) (length events) d)
 last_is o e [] d = refl
 last_is o e (x ∷ events) d = last_is (Some e) x events d
 
--- a ticket above the last is above all
+-- a ticket above the last one is above all
 above_all : (events : List Event) (ticket : ℕ) → TicketsRise events → MatchOption (last_or None events) ⊤ (λ last. last.ticket < ticket)
     → (k : ℕ) (d : Event) → k < length events → (get_or events k d).ticket < ticket
 above_all [] ticket rise above k d below = absurd (omega arith)
@@ -135,7 +135,7 @@ pub complete_without_fault : (initial : List ℕ) (events : List Event) → AreD
 complete_without_fault initial events distinct none nothing =
     grind (arith, sound_without_fault, MatchOption-at_none, length-append, get_or-append-add)
 
--- ---- a complete history, hence no fault
+-- ---- a complete history has no fault
 
 may_follow_in : (initial : List ℕ) (before later : List Event) (e : Event) → IsCompleteFrom initial (before ++ e ∷ later) → MayFollow initial before e
 may_follow_in initial before later e whole = record {
@@ -170,7 +170,7 @@ no_fault_in_complete initial events complete i e below here =
     no_fault initial (take i events) i e
     (may_follow_in initial (take i events) (drop (suc i) events) e (subst (IsCompleteFrom initial) (cut_at events i e here) complete))
 
--- in a complete history nothing is pending
+-- in a complete history no call is pending
 pub nothing_pending_in_complete : (events : List Event) → IsCompleteHistory events → NothingPending events
 nothing_pending_in_complete events complete thread = nothing_after_turns (projection thread events) (complete.threads_take_turns thread)
 
@@ -178,7 +178,7 @@ no_first_fault : (initial : List ℕ) (events : List Event) (i : ℕ) (fault : H
     → IsFirstFaultAt initial events i fault → ⊥
 no_first_fault initial events i fault complete found = grind (arith, no_fault_in_complete, slice_get_within)
 
--- only out of memory is left as a fault of a complete history
+-- the only fault of a complete history is out of memory
 pub complete_has_no_fault : (initial : List ℕ) (events : List Event) (fault : HistoryFault) → IsFirstFault initial events fault
     → IsCompleteFrom initial events → fault ≡ Memory
 complete_has_no_fault initial events fault first complete = by_kind (λ f. IsFirstFault initial events f → f ≡ Memory)
@@ -189,30 +189,31 @@ complete_has_no_fault initial events fault first complete = by_kind (λ f. IsFir
     let there = call.2 in cc)
     (λ found. refl) (λ j found. absurd (twice_not_distinct initial j (initial_distinct initial events complete) found)) fault first
 
--- ---- initial values and events have one first fault
+-- ---- initial values and events have at most one first fault
 
--- there is one least ticket
+-- there is only one least ticket
 pub one_least : (events : List Event) (t u : ℕ) → IsLeastPending events t → IsLeastPending events u → t ≡ u
 one_least events t u least_t least_u = grind (arith)
 
--- what holds of each first fault of an event, of a pending call and of an initial value holds of each that isn't out of memory
+-- a property of each first fault of an event, a pending call or an initial value holds of each first fault but out of
+-- memory
 by_first : (P : HistoryFault → Type 0) (initial : List ℕ) (events : List Event) → ((i : ℕ) (f : HistoryFault) → IsFirstFaultAt initial events i f → P f)
     → ((ticket : ℕ) → IsFirstFault initial events (Pending ticket) → P (Pending ticket)) → ((j : ℕ) → IsFirstTwice initial j → P (InitialTwice j))
     → (f : HistoryFault) → f ≢ Memory → IsFirstFault initial events f → P f
 by_first P initial events at pending twice = by_kind (λ f. f ≢ Memory → IsFirstFault initial events f → P f)
     (λ i f of known first. at i f ((of.first initial events).0 first)) (λ ticket known. pending ticket) (λ known first. absurd (known refl)) (λ j known. twice j)
 
--- where an event has a fault, some event has one
+-- a faulty event contradicts that no event has a fault
 not_among : (initial : List ℕ) (events : List Event) (i : ℕ) (fault : HistoryFault) → IsFirstFaultAt initial events i fault
     → NoFaultBefore initial events (length events) → ⊥
 not_among initial events i fault at none = grind (arith, slice_get_within)
 
--- the first fault of an event is one
+-- an event has only one first fault
 one_place : (initial : List ℕ) (events : List Event) (i j : ℕ) (f g : HistoryFault) → IsFirstFaultAt initial events i f
     → IsFirstFaultAt initial events j g → f ≡ g
 one_place initial events i j f g at_f at_g = grind (arith, cases_order, one_at)
 
--- there is one first place of a value that stands twice
+-- only one place is the first of a value that equals an earlier one
 one_twice : (initial : List ℕ) (j k : ℕ) → IsFirstTwice initial j → IsFirstTwice initial k → j ≡ k
 one_twice initial j k at_j at_k = grind (arith, cases_order j k, twice_before initial j k, twice_before initial k j)
 
@@ -227,13 +228,13 @@ one_first_fault initial events f g known_f known_g first_f first_g = by_first (�
     (λ j a. by_first (λ g. InitialTwice j ≡ g) initial events (λ k g b. absurd (twice_not_distinct initial j b.0 a))
     (λ u b. absurd (twice_not_distinct initial j b.0 a)) (λ k b. ap (λ n. InitialTwice n) (one_twice initial j k a b)) g known_g first_g) f known_f first_f
 
--- ---- the faults of events to which more are added
+-- ---- the faults of events when more are added
 
 pub slice_get-append_seam : (xs : List Event) (y : Event) → slice_get (xs ++ y ∷ []) (length xs) ≡ Some y
 slice_get-append_seam [] y = refl
 slice_get-append_seam (x ∷ xs) y = slice_get-append_seam xs y
 
--- later events change nothing of those before
+-- later events don't change the faults of those before
 pub no_fault-append : (initial : List ℕ) (events later : List Event) (n : ℕ) → n ≤ length events → NoFaultBefore initial events n
     → NoFaultBefore initial (events ++ later) n
 no_fault-append initial events later n within none i e below here =
@@ -247,7 +248,7 @@ no_fault-push initial events e here none i x below at =
     each_more (λ k y. fault_at initial (take k (events ++ e ∷ [])) k y ≡ None) (events ++ e ∷ []) (length events) e (slice_get-append_seam events e)
     (rw take-append_seam here) (no_fault-append initial events (e ∷ []) (length events) (omega arith) none) i x short at
 
--- a fault that was met stays the first
+-- a fault that was found stays the first
 pub met_fault-append : (initial : List ℕ) (events later : List Event) (fault : HistoryFault) → HasMetFault initial events fault
     → HasMetFault initial (events ++ later) fault
 met_fault-append initial events later fault (inl refused) = inl refused
@@ -270,13 +271,13 @@ met_fault-push initial events e fault distinct none (inl memory) = inl (inl memo
 met_fault-push initial events e fault distinct none (inr found) =
     grind (arith, no_fault-append, slice_get-append_seam, take-append_seam)
 
--- a fault that was met is the first, at the end too
+-- a fault that was found is the first, at the end too
 pub met_fault_is_first : (initial : List ℕ) (events : List Event) (fault : HistoryFault) → HasMetFault initial events fault → IsFirstFault initial events fault
 met_fault_is_first initial events fault (inl (inl memory)) = subst (IsFirstFault initial events) (sym memory) tt
 met_fault_is_first initial events fault (inl (inr (j, is, twice))) = subst (IsFirstFault initial events) (sym is) twice
 met_fault_is_first initial events fault (inr (i, found)) = first_fault_at initial events i fault found
 
--- after a fault was met, events are passed over
+-- after a fault was found, events are ignored
 pub gathered_after_fault : (initial : List ℕ) (events : List Event) (e : Event) (g : Gathering) → true ≡ is_some g.fault
     → length events < MAX_EVENTS → IfSome g.clash (Explains initial (events ++ e ∷ []) g.fault) → HasGathered initial events g
     → HasGathered initial (events ++ e ∷ []) g
@@ -295,15 +296,15 @@ gathered_after_fault initial events e g some few clash known = record {
 pub none_kept : (kept : Option HistoryFault) → false ≡ is_some kept → kept ≡ None
 none_kept kept none = grind arith
 
--- if no fault is kept, the events have none so far
+-- if no fault is kept, the events so far have none
 pub still_forming : (initial : List ℕ) (events : List Event) (g : Gathering) → g.fault ≡ None → HasGathered initial events g → IsForming initial events g
 still_forming initial events g none known = MatchOption-at_none _ _ none known.gathered
 
--- while none was met, the events have none
+-- while no fault was found, the events have none
 pub none_met : (initial : List ℕ) (events : List Event) (g : Gathering) → false ≡ is_some g.fault → HasGathered initial events g → IsForming initial events g
 none_met initial events g none = still_forming initial events g (none_kept g.fault none)
 
--- a fault that is kept was met
+-- a kept fault was found
 pub kept_is_met : (initial : List ℕ) (events : List Event) (g : Gathering) (fault : HistoryFault) → g.fault ≡ Some fault → HasGathered initial events g
     → HasMetFault initial events fault
 kept_is_met initial events g fault kept known = MatchOption-at_some _ _ fault kept known.gathered
@@ -316,36 +317,36 @@ run_of_formed initial events forming formed distinct none = rw formed.operations
 pub run_of_forming : (initial : List ℕ) (events : List Event) (g : Gathering) → IsForming initial events g → IsRunOf events g.forming.timeline.operations
 run_of_forming initial events g known = run_of_formed initial events g.forming known.formed known.distinct known.no_fault
 
--- what holds of the fault of a result that is one
+-- a property of a result's error, which is one
 pub of_err : {T E : Type 0} (P : T → Type 0) (Q R : E → Type 0) (result : Result T E) → IsErrAnd result R → ((fault : E) → R fault → Q fault)
     → MatchResult result P Q
 of_err P Q R (Ok made) is told = absurd is
 of_err P Q R (Err fault) is told = told fault is
 
--- what a builder begins with: its values are noted and distinct, or one stands twice
+-- the start of a builder: its values are noted and distinct, or one equals an earlier one
 pub begun : (g : Gathering) (initial : List ℕ) (called : CalledValues) (r : Result (Unit {0}) HistoryFault) → length initial ≤ MAX_INITIAL
     → HasFormed [] g.forming → g.count ≡ 0 → g.forming.timeline.initial ≡ initial → g.called ≡ called → g.fault ≡ result_err r
     → IfOk r (λ _. Knows initial called × AreDistinct initial) → IfErr r (HasRefusedInitial initial) → IfSome g.clash (Explains initial [] g.fault)
     → HasGathered initial [] g
 begun g initial called r few formed count is same fault noted refused clash = search (rules, append-nil)
 
--- ---- the first event with a property, and what contradicts what when an event is added
+-- ---- the first event with a property, and contradictions as events are added
 
--- ---- looking for an event, one after another
+-- ---- searching for an event, one after another
 
 -- the event after those that were seen
 at_seam : (seen : List Event) (e : Event) (left : List Event) → slice_get (seen ++ e ∷ left) (length seen) ≡ Some e
 at_seam [] e left = refl
 at_seam (x ∷ seen) e left = at_seam seen e left
 
--- of all events some were seen, as many as the place says, and none of them is looked for
+-- as many events were seen as the place says, and none of them has the property
 pub record Searched (all left : List Event) (sought : Sought) (place : ℕ) : Type 0 where
   pub seen : List Event
   pub parts : seen ++ left ≡ all
   pub count : place ≡ length seen
   pub none : (i : ℕ) (e : Event) → slice_get seen i ≡ Some e → ¬ (IsSought sought (record { place = i; event = e }))
 
--- one more event that isn't looked for
+-- one more event without the property
 pub searched_more : (all old left : List Event) (sought : Sought) (place next : ℕ) (e : Event) → old ≡ e ∷ left → (place < MAX_EVENTS → next ≡ suc place)
     → ¬ (IsSought sought (record { place = place; event = e })) → (length all ≤ MAX_EVENTS → Searched all old sought place)
     → length all ≤ MAX_EVENTS → Searched all left sought next
@@ -357,27 +358,27 @@ searched_more all old left sought place next e is counts other searched few =
     let more = length-append was.seen (e ∷ []) in
     grind (arith, append_assoc, slice_get_within, each_more, slice_get-append_seam, slice_get-append_left)
 
--- ---- what contradicts what
+-- ---- contradictions
 
--- an event stands where it stood, whatever comes after
+-- an event stays at its place when more are added
 pub stands-append : (events later : List Event) (x : Placed) → Stands events x → Stands (events ++ later) x
 stands-append events later x at = slice_get-append_left events later x.place (slice_get_within events x.place x.event at) ∙ at
 
--- an event that is added stands at the end
+-- an added event is at the end
 pub stands-push : (events : List Event) (x : Placed) → x.place ≡ length events → Stands (events ++ x.event ∷ []) x
 stands-push events x here = subst (λ n. slice_get (events ++ x.event ∷ []) n ≡ Some x.event) (sym here) (slice_get-append_seam events x.event)
 
--- the first that enqueues a value stays the first
+-- the first event that calls for a value stays the first
 pub first_with-append : (events later : List Event) (x y : Placed) → Stands events x → AreFirstWith events x y → AreFirstWith (events ++ later) x y
 first_with-append events later x y at are = grind (arith, slice_get_within, slice_get-append_left)
 
--- that a call is pending isn't met while events come
+-- that a call is pending isn't found before all events came
 met_not_pending : (initial : List ℕ) (events : List Event) (ticket : ℕ) → HasMetFault initial events (Pending ticket) → ⊥
 met_not_pending initial events ticket (inl (inl memory)) = cc
 met_not_pending initial events ticket (inl (inr (j, is, twice))) = cc
 met_not_pending initial events ticket (inr (i, found)) = let other = found.2.2 in grind arith
 
--- what contradicts each other at a fault that was met does so, whatever comes after
+-- events or values that contradict each other at a fault still do when more events are added
 clash-append : (initial : List ℕ) (events later : List Event) (found : Clash) → HasMetFault initial events (fault_of found)
     → IsClash initial events found → IsClash initial (events ++ later) found
 clash-append initial events later (clash.Tickets x y) met is = (stands-append events later x is.0, stands-append events later y is.1, is.2, is.3)
@@ -387,7 +388,7 @@ clash-append initial events later (clash.Initial place x) met is = (stands-appen
 clash-append initial events later (clash.Twice value i j) met is = is
 clash-append initial events later (clash.Pending x) met is = absurd (met_not_pending initial events x.event.ticket met)
 
--- the same of what is kept
+-- the kept ones still do when more events are added
 pub kept-append : (initial : List ℕ) (events later : List Event) (g : Gathering) → HasGathered initial events g
     → IfSome g.clash (Explains initial (events ++ later) g.fault)
 kept-append initial events later g known = of_kept g.clash known.clash
@@ -396,13 +397,13 @@ kept-append initial events later g known = of_kept g.clash known.clash
     of_kept None is = is
     of_kept (Some found) is = (clash-append initial events later found (kept_is_met initial events g (fault_of found) is.1 known) is.0, is.1)
 
--- what contradicts each other, and the fault that it explains
+-- a contradiction, and the fault that it explains
 pub explains : (initial : List ℕ) (events : List Event) (kept : Option HistoryFault) (found : Option Clash) → IfSome found (IsClash initial events)
     → IfSome found (λ clash. kept ≡ Some (fault_of clash)) → IfSome found (Explains initial events kept)
 explains initial events kept None is same = is
 explains initial events kept (Some found) is same = (is, same)
 
--- what is kept are events or values that contradict each other
+-- the kept events or values contradict each other
 pub kept_is_clash : (initial : List ℕ) (events : List Event) (g : Gathering) → HasGathered initial events g → IfSome g.clash (IsClash initial events)
 kept_is_clash initial events g known = of_kept g.clash known.clash
   where
@@ -410,7 +411,7 @@ kept_is_clash initial events g known = of_kept g.clash known.clash
     of_kept None is = is
     of_kept (Some found) is = is.0
 
--- the fault that they explain is the first
+-- the fault that the kept ones explain is the first
 pub kept_is_first : (initial : List ℕ) (events : List Event) (g : Gathering) → HasGathered initial events g
     → IfSome g.clash (λ found. IsFirstFault initial events (fault_of found))
 kept_is_first initial events g known = of_kept g.clash known.clash
@@ -419,7 +420,7 @@ kept_is_first initial events g known = of_kept g.clash known.clash
     of_kept None is = is
     of_kept (Some found) is = met_fault_is_first initial events (fault_of found) (kept_is_met initial events g (fault_of found) is.1 known)
 
--- out of memory isn't explained by events
+-- no events or values explain out of memory
 not_memory : (found : Clash) → fault_of found ≢ Memory
 not_memory (clash.Tickets x y) = λ is. cc
 not_memory (clash.Calls x y) = λ is. cc
@@ -428,12 +429,12 @@ not_memory (clash.Initial place x) = λ is. cc
 not_memory (clash.Twice value i j) = λ is. cc
 not_memory (clash.Pending x) = λ is. cc
 
--- in a complete history nothing contradicts anything
+-- a complete history has no contradiction
 pub none_in_complete : (initial : List ℕ) (events : List Event) (found : Option Clash) → IsCompleteFrom initial events
     → IfSome found (λ clash. IsFirstFault initial events (fault_of clash)) → found ≡ None
 none_in_complete initial events None complete first = refl
 none_in_complete initial events (Some clash) complete first =
     absurd (not_memory clash (complete_has_no_fault initial events (fault_of clash) first complete))
 
--- where an event stands as more come after it, for `clash_of`
+-- the place of an event as more are added, for `clash_of`
 pub ruleset standing = (first_with-append, stands-append, stands-push, take-append_seam)

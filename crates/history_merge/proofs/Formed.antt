@@ -1,4 +1,4 @@
--- The operations of the events so far, and what a history builder keeps of them, after one more event and at the end.
+-- The operations of the events so far, and the state of a history builder, after one more event and at the end.
 use Rattle.history_merge.proofs.Common.{[], All-push, answered, answers, answers_pending, ap, append-nil, append_assoc}
 use Rattle.history_merge.proofs.Common.{arith, begun, breaks_ticket_order, called_by, called_value, calls_initial}
 use Rattle.history_merge.proofs.Common.{CallWhilePending, cases_Bool, common_steps, cond, DuplicateValue, eqb_tells}
@@ -16,15 +16,15 @@ use Rattle.history_merge.proofs.Turns.{answer_is_return, one_event_more, project
 
 -- ---- how one more event changes the operations of the events so far
 
--- a later event of another thread is not the next one
+-- an added event of another thread isn't the next one
 next_other : (thread : ℕ) (events : List Event) (r : Event) → nat_eq r.thread thread ≡ false → next_of thread (events ++ r ∷ []) ≡ next_of thread events
 next_other thread events r other = grind (arith, find-append (λ x. nat_eq x.thread thread) events (r ∷ []))
 
--- one thread has one next event at most
+-- a thread has at most one next event
 one_next : (events : List Event) (s t : ℕ) → s ≡ t → next_of s events ≡ next_of t events
 one_next events s t same = ap (λ thread. next_of thread events) same
 
--- of a thread without an event no call waits
+-- no call of a thread without an event waits
 none_waits : (thread : ℕ) (events : List Event) → next_of thread events ≡ None → waiting thread events ≡ None
 none_waits thread [] none = refl
 none_waits thread (e ∷ later) none = grind (arith, none_waits thread later)
@@ -37,14 +37,14 @@ pub formed_call : (events : List Event) (r : Event) → waiting r.thread events 
 formed_call [] r none call = rw call refl
 formed_call (e ∷ later) r none call = grind (arith, find-append, one_next, formed_call later r)
 
--- it waits at the end of the operations
+-- the added call waits at the end of the operations
 pub waits_call : (events : List Event) (r : Event) → is_call r.what ≡ true → waiting r.thread (events ++ r ∷ []) ≡ Some (length (operations_so_far events), r)
 waits_call [] r call = grind (arith, nat_tests)
 waits_call (e ∷ later) r call = grind (arith, waits_call later r call)
 
 -- ---- one more return
 
--- no call of its thread waits any more
+-- after a return no call of its thread waits
 pub waits_answer : (events : List Event) (r : Event) → is_call r.what ≡ false → waiting r.thread (events ++ r ∷ []) ≡ None
 waits_answer [] r call = grind (arith, nat_tests)
 waits_answer (e ∷ later) r call = grind (arith, find-append, waits_answer later r call)
@@ -54,13 +54,13 @@ pub waits_other : (thread : ℕ) (events : List Event) (r : Event) → nat_eq r.
 waits_other thread [] r other = rw other refl
 waits_other thread (e ∷ later) r other = grind (arith, waits_other thread later r other, next_other thread later r other)
 
--- a return of a thread that has no event there changes no operation
+-- a return of a thread without an event changes no operation
 unanswered : (events : List Event) (r : Event) → next_of r.thread events ≡ None → is_call r.what ≡ false
     → operations_so_far (events ++ r ∷ []) ≡ operations_so_far events
 unanswered [] r none call = rw call refl
 unanswered (e ∷ later) r none call = grind (arith, find-append, unanswered later r)
 
--- where a call of the new event's thread waits, no thread's next event changes
+-- if a call of the new event's thread waits, no thread's next event changes
 kept_next : (e r : Event) (later : List Event) (w : ℕ × Event) → waiting r.thread later ≡ Some w
     → next_of e.thread (later ++ r ∷ []) ≡ next_of e.thread later
 kept_next e r later w is = grind (arith, none_waits, one_next, find-append)
@@ -96,18 +96,18 @@ formed_answer (e ∷ later) r place call waits returns = join (waiting r.thread 
 
 -- ---- values of the calls
 
--- the operations tell the values that were called
+-- the operations have the values that were called for
 pub called_in_operations : (events : List Event) (v : ℕ) → was_called events v ≡ is_called_in (operations_so_far events) v
 called_in_operations [] v = refl
 called_in_operations (e ∷ later) v = grind (arith, called_in_operations later v)
 
--- ---- what the builder keeps
+-- ---- the state of the builder
 
 waits_at : (o : Option (ℕ × Event)) (place : ℕ) → Some place ≡ option_map (λ found. found.0) o → (call : Event) × (o ≡ Some (place, call))
 waits_at None place h = cc
 waits_at (Some w) place h = (w.1, let same : w.0 ≡ place = cc in ap (λ n. Some (n, w.1)) same)
 
--- one more event, after which this is the place of its thread's pending call
+-- one more event, with the new place of its thread's pending call
 formed_more : (events : List Event) (e : Event) (old new : Forming) (place : Option ℕ) → e.thread ≤ MAX_THREAD → HasFormed events old
     → new.timeline.operations ≡ operations_so_far (events ++ e ∷ []) → new.least_ticket ≡ e.ticket + 1 → new.pending ≡ set old.pending e.thread place
     → place ≡ option_map (λ found. found.0) (waiting e.thread (events ++ e ∷ []))
@@ -136,7 +136,7 @@ pub record IsPendingAt (events : List Event) (thread : ℕ) (old : Forming) (pla
   pub answered : (e : Event) → e.thread ≡ thread → is_call e.what ≡ false
       → operations_so_far (events ++ e ∷ []) ≡ set old.timeline.operations place (operation_so_far call (Some e))
 
--- the place that is kept of a thread is that of its pending call
+-- the place kept for a thread is that of its pending call
 pub pending_at : (events : List Event) (thread : ℕ) (old : Forming) (place : ℕ) → thread ≤ MAX_THREAD → HasFormed events old
     → get_or old.pending thread None ≡ Some place → IsPendingAt events thread old place
 pending_at events thread old place within known is =
@@ -147,14 +147,14 @@ pending_at events thread old place within known is =
     rw known.operations (done (record { ticket = 0; thread = thread; what = RetEnq }) refl refl).was in
     grind arith
 
--- where no place is kept of a thread, no call is pending
+-- if no place is kept for a thread, it has no pending call
 pub none_pending_at : (events : List Event) (thread : ℕ) (old : Forming) → thread ≤ MAX_THREAD → HasFormed events old
     → get_or old.pending thread None ≡ None → pending_call thread events ≡ None
 none_pending_at events thread old within known is = grind arith
 
--- ---- what a call and a return are judged by
+-- ---- judging a call and a return
 
--- a return calls with no value
+-- a return calls for no value
 pub no_value : (what : What) → is_call what ≡ false → called_value what ≡ None
 no_value what h = grind arith
 
@@ -173,11 +173,11 @@ fault_of_return initial events place e order below returns = grind (arith, le-lt
 kind_answered : (call answer : What) → answers call answer ≡ true → kind_of call answer ≡ Some (answered (begun call) answer)
 kind_answered call answer h = grind arith
 
--- whether a return answers a call, by what their operation did
+-- whether a return answers a call depends on the kind of their operation
 kind_tells : (call answer : What) → answers call answer ≡ is_some (kind_of call answer)
 kind_tells call answer = grind arith
 
--- a return that isn't of its call's kind
+-- a return that isn't of its call's kind has a fault
 pub wrong_return : (initial : List ℕ) (events : List Event) (n : ℕ) (e : Event) (old : Forming) (place : ℕ) (o : Operation)
     → breaks_ticket_order events e ≡ false → e.thread ≤ MAX_THREAD → is_call e.what ≡ false → HasFormed events old
     → get_or old.pending e.thread None ≡ Some place → slice_get old.timeline.operations place ≡ Some o → kind_of (called_by o.kind) e.what ≡ None
@@ -186,7 +186,7 @@ wrong_return initial events n e old place o order below returns known is found n
     let at = pending_at events e.thread old place below known is in
     grind (arith, fault_of_return, kind_tells, call_so_far at.call None at.calls)
 
--- one more return, which is
+-- one more return, of its call's kind
 pub formed_after_answer : (initial : List ℕ) (events : List Event) (n : ℕ) (e : Event) (old new : Forming) (place : ℕ) (o : Operation) (kind : OpKind)
     → breaks_ticket_order events e ≡ false → e.thread ≤ MAX_THREAD → is_call e.what ≡ false → HasFormed events old
     → get_or old.pending e.thread None ≡ Some place → slice_get old.timeline.operations place ≡ Some o → kind_of (called_by o.kind) e.what ≡ Some kind
@@ -202,7 +202,7 @@ formed_after_answer initial events n e old new place o kind order below returns 
 
 -- ---- all events
 
--- in events of one thread that take turns, a call is followed by its answer
+-- in events of one thread that take turns, the return of a call follows it
 next_in_turns : (before : List Event) (e : Event) (later : List Event) → TakesTurns (before ++ e ∷ later) → is_call e.what ≡ true
     → (a : Event) × (slice_get later 0 ≡ Some a) × (answers e.what a.what ≡ true)
 next_in_turns [] e [] turns call = elim turns [ ]
@@ -229,7 +229,7 @@ formed_from before (e ∷ later) turns =
           rw (call, next_is_first e.thread later ∙ next.1, operation_answered e next.0 next.2, more) refl
     ]
 
--- the operations of a complete history are all there
+-- the operations of a complete history are all complete
 pub all_formed : (events : List Event) → IsCompleteHistory events → operations_so_far events ≡ operations_of events
 all_formed events complete = formed_from [] events complete.threads_take_turns
 
@@ -238,7 +238,7 @@ pub run_of_complete : (events : List Event) → IsCompleteHistory events → IsR
 run_of_complete events complete = run_of events complete.tickets_rise complete.threads_in_range
     (λ thread. ([], rw append-nil (complete.threads_take_turns thread)))
 
--- so its operations tell them
+-- the operations of a complete history determine its events
 pub formed_of_complete : (events : List Event) (operations : List Operation) → IsCompleteHistory events → operations ≡ operations_so_far events
     → IsFormedOf events operations
 formed_of_complete events operations complete so_far = assumption (
@@ -246,7 +246,7 @@ formed_of_complete events operations complete so_far = assumption (
   ap events_of so_far ∙ told_of_run events (operations_so_far events) (run_of_complete events complete),
 )
 
--- a history keeps them
+-- a history keeps such operations
 pub kept_of_formed : (initial : List ℕ) (events : List Event) (operations : List Operation) → IsFormedOf events operations
     → IsCompleteFrom initial events → length events ≤ MAX_EVENTS → IsKept initial operations
 kept_of_formed initial events operations formed complete few = grind arith

@@ -1,14 +1,12 @@
--- The way of the argument, from one thread's events to complete histories and their operations:
--- Turns: calls and returns of one thread, event by event, and which of its calls is pending.
--- TheirEvents: the operations determine the events.
--- Distinct: what a run enqueued and dequeued, and where; what the operations of a complete history have in common, and what
--- distinguishes them and their values.
--- Lists: what lists contain, and what holds of all of them.
--- PlaceLists: operations at places of a list.
--- KnownValues: values that rise, and which values are known.
--- Formed: what the builder holds after each event.
--- Faults: a list of events is a complete history if and only if it has no fault; there is one first fault, and what contradicts what.
--- Timelines: a history whose initial values are enqueued before all else is complete, and has the same linearizations.
+-- How the argument goes, from the events of one thread to complete histories and their operations: Turns: calls and
+-- returns of one thread, event by event, and its pending call. TheirEvents: the operations determine the events.
+-- Distinct: the values that a run enqueued and dequeued, and at which places; properties of the operations of a
+-- complete history, and what distinguishes them and their values. Lists: elements of lists, and properties of all of
+-- them. PlaceLists: operations at places of a list. KnownValues: values that rise, and the values known so far.
+-- Formed: the state of the builder after each event. Faults: a list of events is a complete history if and only if it
+-- has no fault; there is at most one first fault, and the events or values that contradict each other explain it.
+-- Timelines: a history whose initial values are enqueued before all else is complete, and has the same
+-- linearizations.
 mod Common
 pub mod TheirEvents
 pub mod Formed

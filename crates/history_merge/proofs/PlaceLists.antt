@@ -7,7 +7,7 @@ use Rattle.history_merge.specs.declared.operation.Operation.{Operation}
 use Rattle.history_merge.specs.declared.operation.OpKind.TheVariants.{Empty}
 use Rattle.history_merge.specs.Legal.{ArePlacesOf}
 
--- the place at a place of the list is that of the operation there
+-- the entry at an index of the places is the place of the operation at this index
 pub placed_at : (operations : List Operation) (places : List ℕ) (listed : List Operation) (p d : ℕ) → ArePlacesOf operations places listed
     → p < length listed → slice_get operations (get_or places p d) ≡ slice_get listed p
 placed_at operations [] [] p d at below = absurd (omega arith)
@@ -18,7 +18,7 @@ placed_at operations (q ∷ places) (o ∷ listed) (suc p) d at below =
     let later : map (slice_get operations) places ≡ map (λ x. Some x) listed = cc in
     placed_at operations places listed p d later (omega arith)
 
--- as many places as operations
+-- there are as many places as operations
 pub as_many_placed : (operations : List Operation) (places : List ℕ) (listed : List Operation) → ArePlacesOf operations places listed
     → length places ≡ length listed
 as_many_placed operations places listed at =
@@ -32,13 +32,13 @@ module _ (operations : List Operation) (places : List ℕ) (listed : List Operat
   within : i < length listed
   within = let many = as_many_placed operations places listed at in omega (arith, below, many)
 
-  -- something stands at each place
+  -- there is an operation at each place
   pub stands_there : ¬ (slice_get operations (get_or places i d) ≡ None)
   stands_there none =
       let clash : Some (get_or listed i past) ≡ None = sym (slice_get-get_or listed i past within) ∙ sym (placed_at operations places listed i d at within) ∙ none in
       cc
 
-  -- it is the next operation
+  -- this operation is the next one
   pub one_more_placed : (o : Operation) → slice_get operations (get_or places i d) ≡ Some o → take (i + 1) listed ≡ take i listed ++ o ∷ []
   one_more_placed o is =
       let here = get_or_from_slice_get listed i o past (sym (placed_at operations places listed i d at within) ∙ is) in

@@ -1,4 +1,5 @@
--- The operations of events determine them: each call, with its return by ticket among the events of the later operations.
+-- The operations of events determine them: each call, with its return inserted by ticket among the events of the
+-- later operations.
 use Rattle.history_merge.proofs.Common.{[], All, All-contains, All-head, All-tail, ap, AreInTurn, AreLeft, arith, Bool}
 use Rattle.history_merge.proofs.Common.{call_event, cases_Bool, cases_eq, cases_lt, comes_by_ticket, common_steps}
 use Rattle.history_merge.proofs.Common.{count_by, drop, due_in, eqb-true, eqb_tells, Event, events_of, false≢true}
@@ -16,13 +17,13 @@ use Rattle.history_merge.proofs.Distinct.{contains_at, cut_at, found_first, one_
 
 -- ---- the next event of a thread
 
--- a list of nothing holds nothing at each place
+-- a list of absent options has none at each place
 pub nothing_at : {X : Type 0} → (n i : ℕ) → get_or {A = Option X} (replicate n None) i None ≡ None
 nothing_at zero i = refl
 nothing_at (suc n) zero = refl
 nothing_at (suc n) (suc i) = nothing_at n i
 
--- of the next event holds what holds of all
+-- a property of all events holds of the next one
 next_holds : (P : Event → Type 0) (thread : ℕ) (xs : List Event) (r : Event) → All P xs → next_of thread xs ≡ Some r → P r
 next_holds P thread xs r all is =
     let first = found_first (λ x. nat_eq x.thread thread) xs r is in All-contains P xs r all (contains_at xs first.place r first.at)
@@ -46,25 +47,25 @@ next_apart xs k t f r rise is_f is_r apart same =
     let one = (one_by_key (λ x. x.ticket) xs first_f.place first_r.place f r rise first_f.at first_r.at same).1 in
     apart (sym (next_thread k xs f is_f) ∙ ap (λ x. x.thread) one ∙ next_thread t xs r is_r)
 
--- what is due is the next event of its thread, and a return
+-- a due event is the next event of its thread, and a return
 due_is : (k : ℕ) (events : List Event) (f : Event) → due_in k events ≡ Some f → (next_of k events ≡ Some f) × (is_call f.what ≡ false)
 due_is k events f due = grind arith
 
--- nothing is due of a thread whose next event is a call
+-- no return is due in a thread whose next event is a call
 due_of_call : (k : ℕ) (events : List Event) (e : Event) → next_of k events ≡ Some e → is_call e.what ≡ true → due_in k events ≡ None
 due_of_call k events e is call = rw (is, call) refl
 
 -- ---- the events of an operation
 
--- the call of an operation is that which it was made of, answered or not
+-- the call of an operation is the event that it was made of, whether it has returned or not
 pub call_so_far : (e : Event) (next : Option Event) → is_call e.what ≡ true → call_event (operation_so_far e next) ≡ e
 call_so_far e next call = grind arith
 
--- it has the ticket and the thread of its call
+-- an operation has the ticket and the thread of its call
 so_far_is : (e : Event) (next : Option Event) → ((operation_so_far e next).call ≡ e.ticket) × ((operation_so_far e next).thread ≡ e.thread)
 so_far_is e next = grind arith
 
--- its return is the next event of its thread
+-- the return of an operation is the next event of its thread
 return_so_far : (e : Event) (later : List Event) → is_call e.what ≡ true → TicketsRise (e ∷ later)
     → IfSome (next_of e.thread later) (FollowsInTurn e) → maybe_return (operation_so_far e (next_of e.thread later)) ≡ due_in e.thread later
 return_so_far e later call rise turn = join (next_of e.thread later) refl turn
@@ -76,18 +77,18 @@ return_so_far e later call rise turn = join (next_of e.thread later) refl turn
         let above = next_holds (λ x. e.ticket < x.ticket) e.thread later r (above_first e later rise) is in
         grind (arith, nat_tests, follows.0 call, next_thread e.thread later r is)
 
--- ---- returns that are put by ticket
+-- ---- returns inserted by ticket
 
 put_first : (e : Event) (xs : List Event) → All (λ x. e.ticket < x.ticket) xs → put_by_ticket e xs ≡ e ∷ xs
 put_first e [] above = refl
 put_first e (x ∷ xs) above = let is = lt-ltb e.ticket x.ticket (above zero x (omega arith)) in rw is refl
 
--- two events of different tickets may be put in any order
+-- two events with different tickets may be inserted in any order
 put_commutes : (a b : Event) (xs : List Event) → a.ticket ≢ b.ticket → put_by_ticket a (put_by_ticket b xs) ≡ put_by_ticket b (put_by_ticket a xs)
 put_commutes a b [] apart = grind (arith, nat_tests)
 put_commutes a b (x ∷ xs) apart = grind (arith, nat_tests, put_commutes a b xs apart)
 
--- none of these has the ticket of this event
+-- no due event has the ticket of this event
 abbrev AreApart : Event → List (Option Event) → Type 0
 AreApart r due = (k : ℕ) (f : Event) → get_or due k None ≡ Some f → f.ticket ≢ r.ticket
 
@@ -102,7 +103,7 @@ put_past r [] xs apart = refl
 put_past r (p ∷ due) xs apart =
     ap (put_maybe p) (put_past r due xs (λ k f at. apart (suc k) f at)) ∙ maybe_past r p (put_each due xs) (apart zero)
 
--- one more is due, of a thread of which none was
+-- one more return is due, in a thread in which none was
 put_new : (r : Event) (due : List (Option Event)) (t : ℕ) (xs : List Event) → t < length due → get_or due t None ≡ None → AreApart r due
     → put_each (set due t (Some r)) xs ≡ put_each due (put_by_ticket r xs)
 put_new r [] t xs below none apart = absurd (omega (arith, below))
@@ -111,7 +112,7 @@ put_new r (p ∷ due) zero xs below none apart = sym (ap (λ q. put_maybe q (put
 put_new r (p ∷ due) (suc t) xs below none apart =
     ap (put_maybe p) (put_new r due t xs (omega (arith, below)) none (λ k f at. apart (suc k) f at))
 
--- one that is due comes
+-- a due return comes
 put_gone : (r : Event) (due : List (Option Event)) (t : ℕ) (xs : List Event) → get_or due t None ≡ Some r → AreApart r (set due t None)
     → put_each due xs ≡ put_by_ticket r (put_each (set due t None) xs)
 put_gone r [] t xs at apart = cc
@@ -122,7 +123,7 @@ put_gone r (p ∷ due) (suc t) xs at apart =
 set_none : (due : List (Option Event)) (t : ℕ) → get_or due t None ≡ None → set due t None ≡ due
 set_none due t none = ap (set due t) (sym none) ∙ set-get_or due t None
 
--- where none is due, the events are those of the operations
+-- if no return is due, the events are those of the operations
 pub put_none : (due : List (Option Event)) (xs : List Event) → ((k : ℕ) → get_or due k None ≡ None) → put_each due xs ≡ xs
 put_none [] xs none = refl
 put_none (p ∷ due) xs none = ap (λ q. put_maybe q (put_each due xs)) (none zero) ∙ put_none due xs (λ k. none (suc k))
@@ -137,12 +138,12 @@ each_behind e (p ∷ due) xs above = ap (put_maybe p) (each_behind e due xs (λ 
 some_within : (due : List (Option Event)) (k : ℕ) (f : Event) → get_or due k None ≡ Some f → k < length due
 some_within due k f at = grind (arith, get_or_past)
 
--- what is due is so of its thread
+-- a due return is due in its thread
 due_at : (events : List Event) (by_call : List Operation) (due : List (Option Event)) (k : ℕ) (f : Event) → AreLeft events by_call due
     → get_or due k None ≡ Some f → due_in k events ≡ Some f
 due_at events by_call due k f left at = grind (arith, some_within)
 
--- after its first event
+-- the events that are left after the first
 step : (e : Event) (later : List Event) (by_call : List Operation) (due : List (Option Event)) → AreLeft (e ∷ later) by_call due
     → AreLeft later (operations_so_far later) (set due e.thread (due_in e.thread later))
 step e later by_call due left = record {
@@ -156,7 +157,7 @@ step e later by_call due left = record {
   ];
 }
 
--- the thread of its first event is one of all
+-- the thread of the first event is in range
 thread_within : (e : Event) (later : List Event) (by_call : List Operation) (due : List (Option Event)) → AreLeft (e ∷ later) by_call due
     → e.thread ≤ MAX_THREAD
 thread_within e later by_call due left = All-head (λ x. x.thread ≤ MAX_THREAD) e later left.run.threads
@@ -164,21 +165,21 @@ thread_within e later by_call due left = All-head (λ x. x.thread ≤ MAX_THREAD
 next_own : (e : Event) (later : List Event) → next_of e.thread (e ∷ later) ≡ Some e
 next_own e later = grind (arith, nat_tests)
 
--- of a thread that returns now, none is due before its next call
+-- after a return, none is due in its thread before its next call
 none_due_after : (e : Event) (later : List Event) → AreInTurn (e ∷ later) → is_call e.what ≡ false → due_in e.thread later ≡ None
 none_due_after e later turns returns = grind (arith, turns.0)
 
--- if a return comes first it is due
+-- if a return comes first, it is due
 due_first : (e : Event) (later : List Event) (by_call : List Operation) (due : List (Option Event)) → AreLeft (e ∷ later) by_call due
     → is_call e.what ≡ false → get_or due e.thread None ≡ Some e
 due_first e later by_call due left returns = grind (arith, thread_within, next_own)
 
--- if a call comes first, what is due comes later
+-- if a call comes first, each due return comes later
 due_later : (e : Event) (later : List Event) (by_call : List Operation) (due : List (Option Event)) (k : ℕ) (f : Event)
     → AreLeft (e ∷ later) by_call due → is_call e.what ≡ true → get_or due k None ≡ Some f → (next_of k later ≡ Some f) × (k ≢ e.thread)
 due_later e later by_call due k f left call at = grind (arith, nat_tests, due_is k (e ∷ later) f (due_at (e ∷ later) by_call due k f left at))
 
--- the first event is a return: by what is known of those after it
+-- if the first event is a return, the later ones are determined
 told_return : (e : Event) (later : List Event) (by_call : List Operation) (due : List (Option Event)) → AreLeft (e ∷ later) by_call due
     → is_call e.what ≡ false → put_each (set due e.thread (due_in e.thread later)) (events_of (operations_so_far later)) ≡ later
     → put_each due (events_of by_call) ≡ e ∷ later
@@ -197,7 +198,7 @@ told_return e later by_call due left returns more =
           next_apart (e ∷ later) k e.thread f e left.run.rise is.0 (next_own e later) (λ same. other.1 (sym same))
     ]
 
--- the first event is a call: by what is known of those after it
+-- if the first event is a call, the later ones are determined
 told_call : (e : Event) (later : List Event) (by_call : List Operation) (due : List (Option Event)) → AreLeft (e ∷ later) by_call due
     → is_call e.what ≡ true → put_each (set due e.thread (due_in e.thread later)) (events_of (operations_so_far later)) ≡ later
     → put_each due (events_of by_call) ≡ e ∷ later
@@ -231,7 +232,7 @@ told_call e later by_call due left call more =
             let other = due_later e later by_call due k f left call at in
             next_apart later k e.thread f r (rises_later e later left.run.rise) other.0 (due_is e.thread later r is).0 other.1
 
--- the operations and the returns that are due tell what is left
+-- the operations and the due returns determine the events that are left
 pub told : (events : List Event) (by_call : List Operation) (due : List (Option Event)) → AreLeft events by_call due
     → put_each due (events_of by_call) ≡ events
 told [] by_call due left = grind (arith, put_none, get_or_past)
@@ -239,15 +240,15 @@ told (e ∷ later) by_call due left =
     let more = told later (operations_so_far later) (set due e.thread (due_in e.thread later)) (step e later by_call due left) in
     grind (arith, cases_Bool, told_call, told_return)
 
--- ---- which event comes first
+-- ---- the event that comes first
 
--- the first by ticket of the returns that are due, if there is one
+-- the due return with the least ticket, if there is one
 abbrev pub IsFirstOfAll : List (Option Event) → Option Event → Type 0
 IsFirstOfAll due None = (k : ℕ) → get_or due k None ≡ None
 IsFirstOfAll due (Some e) =
     ((k : ℕ) × (get_or due k None ≡ Some e)) × ((k : ℕ) (r : Event) → get_or due k None ≡ Some r → e.ticket ≤ r.ticket)
 
--- what is first of some is first of all, if none of the others is due
+-- the first of some due returns is the first of all, if no other is due
 pub first_of_all : (due : List (Option Event)) (n : ℕ) (first : Option Event) → n ≤ length due
     → IsFirstDue (take n due) (length (take n due)) first → ((k : ℕ) → n ≤ k → get_or due k None ≡ None) → IsFirstOfAll due first
 first_of_all due n None within first none = λ k. elim (cases_lt k n) [
@@ -256,14 +257,14 @@ first_of_all due n None within first none = λ k. elim (cases_lt k n) [
 ]
 first_of_all due n (Some e) within first none = grind (arith, length-take-le, get_or-take, cases_lt)
 
--- the calls of the operations are among the events
+-- a ticket below those of all events is below that of the first call
 first_call_above : (later : List Event) (t : ℕ) (o : Operation) (rest : List Operation) → All (λ x. t < x.ticket) later
     → operations_so_far later ≡ o ∷ rest → t < o.call
 first_call_above [] t o rest above is = cc
 first_call_above (e ∷ later) t o rest above is =
     grind (arith, All-head (λ x. t < x.ticket) e later above, first_call_above later t o rest (All-tail (λ x. t < x.ticket) e later above))
 
--- the first call comes before all returns that are due: it is the first event
+-- if the first call comes before all due returns, it is the first event
 pub record GivesCall (events : List Event) (o : Operation) (rest : List Operation) (due : List (Option Event)) : Type 0 where
   pub later : List Event
   pub is : events ≡ call_event o ∷ later
@@ -297,7 +298,7 @@ gives_call (e ∷ later) o rest due first left is_first not_by = pick (is_call e
               (rw others (step e later (o ∷ rest) due left)));
         }
 
--- a return that is due comes before the first call: it is the first event
+-- if a due return comes before the first call, it is the first event
 pub record GivesReturn (events : List Event) (r : Event) (by_call : List Operation) (due : List (Option Event)) : Type 0 where
   pub later : List Event
   pub is : events ≡ r ∷ later
@@ -333,7 +334,7 @@ gives_return (e ∷ later) by_call due r left first by = pick (is_call e.what) r
           left = rw (ops, ap (λ x. x.thread) (sym same)) (rw none at (step e later by_call due left));
         }
 
--- where no call comes before what is due, and none is due, nothing is left
+-- if no call comes before a due return, and none is due, no event is left
 pub gives_nothing : (events : List Event) (by_call : List Operation) (due : List (Option Event)) → AreLeft events by_call due → IsFirstOfAll due None
     → ((o : Operation) (rest : List Operation) → by_call ≡ o ∷ rest → comes_by_ticket None o.call ≡ true) → events ≡ []
 gives_nothing [] by_call due left none by = refl
@@ -343,22 +344,22 @@ gives_nothing (e ∷ later) by_call due left none by = pick (is_call e.what) ref
     pick true call = absurd (false≢true (by (operation_so_far e (next_of e.thread later)) (operations_so_far later) (left.calls ∙ rw call refl)))
     pick false returns = let some = due_first e later by_call due left returns in let nothing = none e.thread in cc
 
--- what is left after a call, by the number of its thread and its return
+-- the events left after a call, by the number of its thread and its return
 pub left_after_call : (events : List Event) (o : Operation) (rest : List Operation) (due : List (Option Event)) (given : GivesCall events o rest due)
     (t : ℕ) (p : Option Event) → t ≡ o.thread → p ≡ maybe_return o → AreLeft given.later rest (set due t p)
 left_after_call events o rest due given t p own returned = grind arith
 
--- the same after a return
+-- the events left after a return
 pub left_after_return : (events : List Event) (r : Event) (by_call : List Operation) (due : List (Option Event)) (given : GivesReturn events r by_call due)
     (t : ℕ) → t ≡ r.thread → AreLeft given.later by_call (set due t None)
 left_after_return events r by_call due given t own = subst (λ n. AreLeft given.later by_call (set due n None)) (sym own) given.left
 
--- what is left is what the operations and the returns that are due tell
+-- the events left are determined by the operations and the due returns
 pub left_as_told : (events : List Event) (by_call : List Operation) (due : List (Option Event)) → AreLeft events by_call due
     → AreLeft (put_each due (events_of by_call)) by_call due
 left_as_told events by_call due left = subst (λ xs. AreLeft xs by_call due) (sym (told events by_call due left)) left
 
--- a thread that has none now has none later, if none is set for it
+-- a thread in which no return is due has none later, unless one is set for it
 pub still_none : (due : List (Option Event)) (n t k : ℕ) (p : Option Event) → ((thread : ℕ) → n ≤ thread → get_or due thread None ≡ None) → n ≤ k → k ≢ t
     → get_or (set due t p) k None ≡ None
 still_none due n t k p none past apart = rw (get_or-set_other due t k p None apart) (none k past)
@@ -366,7 +367,7 @@ still_none due n t k p none past apart = rw (get_or-set_other due t k p None apa
 pub stays_none : (due : List (Option Event)) (t k : ℕ) → get_or due k None ≡ None → get_or (set due t None) k None ≡ None
 stays_none due t k none = grind (arith, cases_eq, set_none, get_or-set_other)
 
--- ---- how many there are
+-- ---- the number of events
 
 length-put : (e : Event) (xs : List Event) → length (put_by_ticket e xs) ≡ suc (length xs)
 length-put e [] = refl
@@ -376,24 +377,24 @@ length-put e (x ∷ xs) = grind (arith, length-put e xs)
 abbrev pub has_returned : Operation → Bool
 has_returned o = not (nat_eq o.ret 0)
 
--- a call for each operation, and a return for each that isn't pending
+-- there is a call for each operation, and a return for each that isn't pending
 pub length-events_of : (operations : List Operation) → length (events_of operations) ≡ length operations + count_by has_returned operations
 length-events_of [] = refl
 length-events_of (o ∷ later) = grind (arith, nat_tests, common_steps, sum_by-cons, length-put, length-events_of later)
 
--- ---- which events threads make
+-- ---- events of threads that take turns
 
 first_is_call : (e : Event) (rest : List Event) → TakesTurns (e ∷ rest) → is_call e.what ≡ true
 first_is_call e [] turns = elim turns [ ]
 first_is_call e (a ∷ rest) turns = answered_is_call e.what a.what turns.0
 
--- what follows in a list that takes turns
+-- in a list that takes turns, each event follows the one before in turn
 follows_in_turns : (before : List Event) (e next : Event) (rest : List Event) → TakesTurns (before ++ e ∷ next ∷ rest) → FollowsInTurn e next
 follows_in_turns [] e next rest turns = grind (arith, turns.0)
 follows_in_turns (c ∷ []) e next rest turns = grind (arith, turns.0, first_is_call next rest turns.1)
 follows_in_turns (c ∷ a ∷ before) e next rest turns = follows_in_turns before e next rest turns.1
 
--- each thread takes turns, but for a call that may be pending
+-- each thread takes turns, but a call may be pending
 abbrev pub AllTakeTurns : List Event → Type 0
 AllTakeTurns events = (thread : ℕ) → (more : List Event) × TakesTurns (projection thread events ++ more)
 
@@ -427,17 +428,17 @@ none_due events turns thread = join (next_of thread events) refl
         let whole : projection thread events ≡ r ∷ rest = cut_at (projection thread events) 0 r (sym (next_is_first thread events) ∙ is) in
         due_of_call thread events r is (first_is_call r (rest ++ own.0) (subst (λ xs. TakesTurns (xs ++ own.0)) whole own.1))
 
--- events whose threads take turns are a run that begins with no return
+-- events whose threads take turns are a run in which no return is due at first
 pub run_of : (events : List Event) → TicketsRise events → All (λ e. e.thread ≤ MAX_THREAD) events → AllTakeTurns events
     → IsRunOf events (operations_so_far events)
 run_of events rise threads turns = assumption (in_turn [] events turns, none_due events turns)
 
--- at the beginning all of them are left, and none is due
+-- at the beginning all events are left, and no return is due
 pub all_left : (events : List Event) (operations : List Operation) (due : List (Option Event)) → IsRunOf events operations
     → length due ≡ MAX_THREAD + 1 → ((k : ℕ) → get_or due k None ≡ None) → AreLeft events operations due
 all_left events operations due is long none = grind arith
 
--- the operations of a run tell its events
+-- the operations of a run determine its events
 pub told_of_run : (events : List Event) (operations : List Operation) → IsRunOf events operations → events_of operations ≡ events
 told_of_run events operations is =
     let none : List (Option Event) = replicate (MAX_THREAD + 1) None in

@@ -1,4 +1,4 @@
--- The timeline: what a queue holds first is enqueued before all else.
+-- The timeline: the initial values are enqueued before all else.
 use Rattle.history_merge.proofs.Common.{[], All, All-append, All-cons, All-contains, All-map, All-nil, All-permutation}
 use Rattle.history_merge.proofs.Common.{AllPairs, AllPairs-cons, ap, append-nil, AreApart}
 use Rattle.history_merge.proofs.Common.{AreComplete, AreDistinct, arith, called_value, called_values, cases_eq}
@@ -19,27 +19,27 @@ use Rattle.std.proofs.lemmas.List.{length-append}
 use Rattle.history_merge.proofs.Distinct.{all_apart, contains_cons, each_timed, not_in_none, traced, value_called}
 use Rattle.history_merge.proofs.Lists.{pairs_map}
 
--- ---- operations and events that all come so much later
+-- ---- operations and events that are all moved later
 
 -- ---- operations
 
 pub there_and_back : (n : ℕ) (o : Operation) → earlier_by n (later_by n o) ≡ o
 there_and_back n o = grind arith
 
--- one map after another is one map
+-- mapping twice is mapping once
 pub map_map : {X Y Z : Type 0} (f : X → Y) (g : Y → Z) (xs : List X) → map g (map f xs) ≡ map (λ x. g (f x)) xs
 map_map f g [] = refl
 map_map f g (x ∷ xs) = ap (λ zs. g (f x) ∷ zs) (map_map f g xs)
 
--- what comes later and then earlier is as it was
+-- operations moved later and back are themselves
 pub all_back : (n : ℕ) (operations : List Operation) → map (earlier_by n) (map (later_by n) operations) ≡ operations
 all_back n operations = grind (arith, map_map, map_fixed, there_and_back)
 
--- operations that are the same when moved were the same
+-- moving operations later is injective
 pub later_injective : (n : ℕ) (xs ys : List Operation) → map (later_by n) xs ≡ map (later_by n) ys → xs ≡ ys
 later_injective n xs ys same = sym (all_back n xs) ∙ ap (map (earlier_by n)) same ∙ all_back n ys
 
--- what changes no kind, and gives none precedence that hadn't it, keeps an order legal
+-- a map that keeps kinds, and adds no precedence, keeps an order legal
 pub legal_moved : (move : Operation → Operation) (queue : List ℕ) (operations order : List Operation)
     → ((xs : List Operation) → map (λ o. o.kind) (map move xs) ≡ map (λ o. o.kind) xs)
     → ((x y : Operation) → Precedes (move x) (move y) → Precedes x y)
@@ -51,13 +51,13 @@ legal_moved move queue operations order kinds back legal = record {
   is_accepted = subst (IsAccepted queue) (sym (kinds order)) legal.is_accepted;
 }
 
--- so much later nothing of an order changes
+-- an order stays legal when moved later
 pub legal_later : (n : ℕ) (queue : List ℕ) (operations order : List Operation) → IsLegalOrder queue operations order
     → IsLegalOrder queue (map (later_by n) operations) (map (later_by n) order)
 legal_later n queue operations order =
     legal_moved (later_by n) queue operations order (map_map (later_by n) (λ o. o.kind)) (λ x y precedes. omega (arith, precedes))
 
--- and an order of operations that are all so much later is one of these
+-- a legal order of operations that are moved later is one moved later
 pub legal_earlier : (n : ℕ) (queue : List ℕ) (operations found : List Operation) → IsLegalOrder queue (map (later_by n) operations) found
     → (order : List Operation) × (found ≡ map (later_by n) order) × IsLegalOrder queue operations order
 legal_earlier n queue operations found legal = (
@@ -72,55 +72,55 @@ legal_earlier n queue operations found legal = (
     stays : All (λ o. later_by n (earlier_by n o) ≡ o) (map (later_by n) operations)
     stays = All-map (λ o. later_by n (earlier_by n o) ≡ o) (later_by n) operations (λ k d below. ap (later_by n) (there_and_back n _))
 
--- ---- how many operations a timeline has, which they are by their tickets, and one more of them
+-- ---- the length of a timeline, its operations by tickets, and one more operation
 
--- an enqueue for each initial value
+-- there is one enqueue for each initial value
 pub length_enqueues : (n : ℕ) (initial : List ℕ) → length (enqueues_from n initial) ≡ length initial
 length_enqueues n [] = refl
 length_enqueues n (v ∷ rest) = ap suc (length_enqueues (n + 1) rest)
 
--- and all operations
+-- the length of a timeline
 pub length_timeline : (initial : List ℕ) (operations : List Operation) → length (timeline initial operations) ≡ length initial + length operations
 length_timeline initial operations = grind (arith, length_enqueues, length-append, length-map)
 
--- behind the enqueues stand the operations, later
+-- the operations come after the enqueues, at their times
 pub behind_enqueues : (initial : List ℕ) (all operations : List Operation) → all ≡ timeline initial operations
     → drop (length initial) all ≡ map (later_by ORIGIN) operations
 behind_enqueues initial all operations is = grind (arith, length_enqueues, drop-append_seam)
 
--- which are there by their tickets
+-- the operations of a timeline by their tickets
 pub operations_back : (initial : List ℕ) (all operations : List Operation) → all ≡ timeline initial operations
     → operations_on (length initial) all ≡ operations
 operations_back initial all operations is = grind (arith, behind_enqueues, all_back)
 
--- none of them comes before the first ticket
+-- no operation of the timeline comes before the first ticket
 pub all_late : (n : ℕ) (operations late : List Operation) → late ≡ map (later_by n) operations → All (λ o. (n ≤ o.call) × (n ≤ o.ret)) late
 all_late n operations late is =
     subst (All (λ o. (n ≤ o.call) × (n ≤ o.ret))) (sym is)
     (All-map (λ o. (n ≤ o.call) × (n ≤ o.ret)) (later_by n) operations (λ k d below. (omega arith, omega arith)))
 
--- if a list is a timeline, its operations are those
+-- a list that is a timeline is that of its own operations
 pub is_timeline : (initial : List ℕ) (all operations : List Operation) → length initial ≤ MAX_INITIAL → all ≡ timeline initial operations → IsTimeline initial all
 is_timeline initial all operations few is = record { few = few; is = is ∙ ap (timeline initial) (sym (operations_back initial all operations is)) }
 
--- ---- one more
+-- ---- one more value or operation
 
 enqueues_push : (time : ℕ) (values : List ℕ) (v : ℕ)
     → enqueues_from time (values ++ v ∷ []) ≡ enqueues_from time values ++ enqueue_at (time + length values) v ∷ []
 enqueues_push time [] v = ap (λ n. enqueue_at n v ∷ []) (let same : time ≡ time + 0 = omega arith in same)
 enqueues_push time (w ∷ values) v = grind (arith, enqueues_push (time + 1) values v)
 
--- one value more
+-- one more value
 pub enqueues_more : (time : ℕ) (values : List ℕ) (i : ℕ) → i < length values
     → enqueues_from time (take (i + 1) values) ≡ enqueues_from time (take i values) ++ enqueue_at (time + i) (get_or values i 0) ∷ []
 enqueues_more time values i below = grind (arith, nat_tests, common_steps, length-take-le, take_more, enqueues_push)
 
--- one operation more
+-- one more operation
 pub timeline_push : (initial : List ℕ) (operations : List Operation) (o : Operation)
     → timeline initial operations ++ later_by ORIGIN o ∷ [] ≡ timeline initial (operations ++ o ∷ [])
 timeline_push initial operations o = grind (arith, append_assoc, map-append)
 
--- another operation in the place of one
+-- one operation replaced by another
 pub timeline_set : (initial : List ℕ) (operations : List Operation) (place : ℕ) (o : Operation)
     → set (timeline initial operations) (length initial + place) (later_by ORIGIN o) ≡ timeline initial (set operations place o)
 timeline_set initial operations place o =
@@ -130,19 +130,19 @@ timeline_set initial operations place o =
     ∙ ap (λ i. front ++ set (map (later_by n) operations) i (later_by n o)) (let same : length initial + place - length initial ≡ place = omega arith in same)
     ∙ ap (λ os. front ++ os) (sym (map-set (later_by n) operations place o))
 
--- an operation behind the enqueues is one of the operations, later
+-- an operation after the enqueues is one of the operations, moved later
 pub later_at : (n : ℕ) (operations : List Operation) (place : ℕ) (later : Operation) → slice_get (map (later_by n) operations) place ≡ Some later
     → (o : Operation) × (slice_get operations place ≡ Some o) × (later_by n o ≡ later)
 later_at n operations place later at = grind (arith, slice_get-map)
 
--- ---- what is pushed and completed
+-- ---- pushing and completing
 
--- after a push there is one more, or the list is as it was
+-- a push adds one operation, or leaves the list
 pub pushed : {T E : Type 0} (r : Result T E) (old new more : List Operation) → OnOk r (new ≡ more) → OnErr r (new ≡ old) → (new ≡ more) ⊎ (new ≡ old)
 pushed (Ok t) old new more added kept = inl added
 pushed (Err e) old new more added kept = inr kept
 
--- the operation at a place, completed
+-- the operation at a place is completed
 pub completed : (initial : List ℕ) (all own : List Operation) (place ret : ℕ) (kind : OpKind) (d later : Operation) → all ≡ timeline initial own
     → place < length own → later ≡ get_or all (length initial + place) d
     → set all (length initial + place) (record later { ret = ret + ORIGIN; kind = kind })
@@ -155,12 +155,12 @@ completed initial all own place ret kind d later is within at =
     ∙ ap (λ (o : Operation). set (timeline initial own) (length initial + place) (record o { ret = ret + n; kind = kind })) (at ∙ behind)
     ∙ timeline_set initial own place (record (get_or own place d) { ret = ret; kind = kind })
 
--- what a push does to a timeline
+-- a push to a timeline
 pub ruleset pushes = (is_timeline, operations_back, pushed, timeline_push)
 
--- ---- enqueues that precede all other operations stand first in each linearization
+-- ---- enqueues that precede all other operations come first in each linearization
 
--- ---- operations in another order, without one that stands first in both
+-- ---- permutations without an operation that comes first in both
 
 -- two of them are equal or differ
 abbrev EqualOrNot : {X : Type 0} → X → X → Type 0
@@ -170,7 +170,7 @@ abbrev as_number : {X : Type 0} (x y : X) → EqualOrNot x y → ℕ
 as_number x y (inl same) = 1
 as_number x y (inr other) = 0
 
--- how often an element stands in a list
+-- the number of times that an element is in a list
 module _ {X : Type 0} (which : (x y : X) → EqualOrNot x y) where
   abbrev one : X → X → ℕ
   one z y = as_number z y (which z y)
@@ -189,7 +189,7 @@ module _ {X : Type 0} (which : (x y : X) → EqualOrNot x y) where
           let both = sum_by-cons (one z) y ys in
           let there = more (omega (arith, some, none, both)) in (suc there.0, omega (arith, there.1), there.2)
 
-  -- lists in which each element stands equally often
+  -- lists in which each element is equally often are permutations
   same_counts : (xs ys : List X) → ((z : X) → sum_by (one z) xs ≡ sum_by (one z) ys) → IsPermutation xs ys
   same_counts [] [] same = IsPermutation-refl []
   same_counts [] (y ∷ ys) same = let here = same y in let own = one_itself y in let both = sum_by-cons (one y) y ys in absurd (omega (arith, here, own, both))
@@ -223,13 +223,14 @@ kind_or_not _ _ = inr (λ same. cc)
 operation_or_not : (x y : Operation) → EqualOrNot x y
 operation_or_not x y = grind (arith, cases_eq x.call y.call, cases_eq x.ret y.ret, cases_eq x.thread y.thread, kind_or_not x.kind y.kind)
 
--- an operation that stands first in both may be left out
+-- an operation that comes first in both may be left out
 pub rest_permutes : (x : Operation) (xs ys : List Operation) → IsPermutation (x ∷ xs) (x ∷ ys) → IsPermutation xs ys
 rest_permutes = cancelled operation_or_not
 
--- ---- enqueues that stand first
+-- ---- enqueues that come first
 
--- each linearization begins with an enqueue that precedes all other operations, and goes on from the queue that holds its value too
+-- each linearization begins with an enqueue that precedes all other operations, and continues from the queue with its
+-- value
 pub first_begins : (queue : List ℕ) (v : ℕ) (x : Operation) (others order : List Operation) → x.kind ≡ Enq v → All (Precedes x) others
     → IsLegalOrder queue (x ∷ others) order
     → (rest : List Operation) × (order ≡ x ∷ rest) × IsLegalOrder (queue ++ v ∷ []) others rest
@@ -245,7 +246,7 @@ first_begins queue v x others (h ∷ rest) kind first legal = (
   },
 )
   where
-    -- what stands first doesn't stand after x
+    -- the first operation doesn't come after x
     behind : Contains others h → Contains rest x → ⊥
     behind among later =
         let early : Precedes x h = All-contains (Precedes x) others h first among in
@@ -261,7 +262,7 @@ first_begins queue v x others (h ∷ rest) kind first legal = (
           (IsPermutation-sym (x ∷ others) (h ∷ rest) legal.holds_each_once) (zero, omega arith, refl)),
     )
 
--- an enqueue that no other operation precedes may stand first
+-- an enqueue that no other operation precedes may come first
 pub first_put : (queue : List ℕ) (v : ℕ) (x : Operation) (others rest : List Operation) → x.kind ≡ Enq v → All (λ o. ¬ (Precedes o x)) others
     → IsLegalOrder (queue ++ v ∷ []) others rest → IsLegalOrder queue (x ∷ others) (x ∷ rest)
 first_put queue v x others rest kind none legal = record {
@@ -271,19 +272,20 @@ first_put queue v x others rest kind none legal = record {
   is_accepted = subst (λ k. IsAccepted queue (k ∷ map (λ o. o.kind) rest)) (sym kind) legal.is_accepted;
 }
 
--- each of the first operations precedes all later ones and the others, and none of these precedes it
+-- each of the first operations precedes all later ones and the others, and is preceded by none of these
 abbrev pub LeadAll : List Operation → List Operation → Type 0
 LeadAll [] others = ⊤
 LeadAll (x ∷ leading) others = All (λ o. Precedes x o × ¬ (Precedes o x)) (leading ++ others) × LeadAll leading others
 
--- these are enqueues of the values
+-- the operations are enqueues of these values
 abbrev pub Enqueue : List ℕ → List Operation → Type 0
 Enqueue [] [] = ⊤
 Enqueue [] (x ∷ leading) = ⊥
 Enqueue (v ∷ values) [] = ⊥
 Enqueue (v ∷ values) (x ∷ leading) = (x.kind ≡ Enq v) × Enqueue values leading
 
--- each linearization begins with enqueues that precede all other operations in turn, and goes on from the queue that holds their values
+-- each linearization begins with enqueues that precede all other operations in turn, and continues from the queue
+-- with their values
 pub enqueues_begin : (queue values : List ℕ) (leading others order : List Operation) → Enqueue values leading → LeadAll leading others
     → IsLegalOrder queue (leading ++ others) order
     → (rest : List Operation) × (order ≡ leading ++ rest) × IsLegalOrder (queue ++ values) others rest
@@ -298,7 +300,7 @@ enqueues_begin queue (v ∷ values) (x ∷ leading) others order kinds lead lega
       subst (λ q. IsLegalOrder q others next.0) (append_assoc queue (v ∷ []) values) next.2,
     )
 
--- such enqueues may stand first
+-- such enqueues may come first
 pub enqueues_put : (queue values : List ℕ) (leading others rest : List Operation) → Enqueue values leading → LeadAll leading others
     → IsLegalOrder (queue ++ values) others rest → IsLegalOrder queue (leading ++ others) (leading ++ rest)
 enqueues_put queue [] [] others rest kinds lead legal = subst (λ q. IsLegalOrder q others rest) (append-nil queue) legal
@@ -309,11 +311,11 @@ enqueues_put queue (v ∷ values) (x ∷ leading) others rest kinds lead legal =
     (enqueues_put (queue ++ v ∷ []) values leading others rest kinds.1 lead.1
     (subst (λ q. IsLegalOrder q others rest) (sym (append_assoc queue (v ∷ []) values)) legal))
 
--- ---- the timeline: what a queue holds first is enqueued before all else
+-- ---- the timeline: the initial values are enqueued before all else
 
 -- ---- legal orders
 
--- from this time on the enqueues are called and return, and so do all later operations
+-- the enqueues, and all later operations, are called and return from this time on
 all_from : (time n : ℕ) (values : List ℕ) (operations : List Operation) → time + length values ≤ n
     → All (λ o. (time ≤ o.call) × (time ≤ o.ret)) (enqueues_from time values ++ map (later_by n) operations)
 all_from time n [] operations after =
@@ -331,7 +333,7 @@ enqueue_all time [] = tt
 enqueue_all time (v ∷ values) = (refl, enqueue_all (time + 1) values)
 
 module _ (initial : List ℕ) (operations : List Operation) (few : length initial ≤ MAX_INITIAL) where
-  -- each linearization of the timeline begins with the initial values, and goes on with a linearization from these
+  -- each linearization of the timeline begins with the initial values, and continues with a linearization from these
   pub all_timeline_orders : (found : List Operation) → IsLegalOrder [] (timeline initial operations) found
       → (order : List Operation) × (found ≡ timeline initial order) × IsLegalOrder initial operations order
   all_timeline_orders found legal =
@@ -340,14 +342,14 @@ module _ (initial : List ℕ) (operations : List Operation) (few : length initia
       let back = legal_earlier ORIGIN initial operations begun.0 begun.2 in
       (back.0, begun.1 ∙ ap (λ os. initial_enqueues initial ++ os) back.1, back.2)
 
-  -- a linearization from the initial values, after their enqueues, is one of the timeline
+  -- the initial enqueues followed by a linearization from the initial values are one of the timeline
   pub timeline_order : (order : List Operation) → IsLegalOrder initial operations order
       → IsLegalOrder [] (timeline initial operations) (timeline initial order)
   timeline_order order legal =
       enqueues_put [] initial (initial_enqueues initial) (map (later_by ORIGIN) operations) (map (later_by ORIGIN) order) (enqueue_all _ initial)
       (lead_all _ ORIGIN initial operations (omega arith)) (legal_later ORIGIN initial operations order legal)
 
-  -- so a linearization of the one exists if and only if one of the other does
+  -- a history has a linearization if and only if its timeline has one
   pub linearizable_from_exactly : IsLinearizable initial operations ↔ IsLinearizable [] (timeline initial operations)
   linearizable_from_exactly = (
     λ found. (timeline initial found.0, timeline_order found.0 found.1),
@@ -364,14 +366,14 @@ what_was_called : (call answer : What) (kind : OpKind) (w : ℕ) → kind_of cal
     → called_value call ≡ Some w
 what_was_called call answer kind w is called = grind arith
 
--- operations called the values of the events' calls
+-- the operations call for the values of the events' calls
 calls_among : (events : List Event) → All (CallsAmong (called_values events)) (operations_of events)
 calls_among events k d below w is =
     let o = get_or (operations_of events) k d in
     let t = traced events o (Contains-get_or (operations_of events) k d below) in
     value_called events t.called_at t.call w t.at_call (what_was_called t.call.what t.answer.what o.kind w t.made.kind is)
 
--- and all operations of a timeline the initial values too
+-- the operations of a timeline call for these and the initial values
 all_among : (time n : ℕ) (values calls : List ℕ) (operations : List Operation) → All (CallsAmong calls) operations
     → All (CallsAmong (values ++ calls)) (enqueues_from time values ++ map (later_by n) operations)
 all_among time n [] calls operations among = All-map (CallsAmong calls) (later_by n) operations among
@@ -381,7 +383,7 @@ all_among time n (v ∷ values) calls operations among =
     (λ k d below w is. let rest = all_among (time + 1) n values calls operations among k d below w is in
     (suc rest.0, omega (arith, rest.1), rest.2))
 
--- the enqueues come apart from one another and from later operations that come apart
+-- the initial enqueues are apart from one another and from later operations, which are apart too
 apart_from : (time n : ℕ) (values calls : List ℕ) (operations : List Operation) → time + length values ≤ n → AreDistinct (values ++ calls)
     → All (CallsAmong calls) operations → AllPairs AreApart operations → AllPairs AreApart (enqueues_from time values ++ map (later_by n) operations)
 apart_from time n [] calls operations after distinct among apart = pairs_map AreApart (later_by n) operations
@@ -408,7 +410,7 @@ apart_from time n (v ∷ values) calls operations after distinct among apart =
     (apart_from (time + 1) n values calls operations (omega arith) (λ i j d below within. distinct (suc i) (suc j) d (omega arith) (omega arith))
     among apart)
 
--- the enqueues stay within the times before the first ticket
+-- the initial enqueues are within the times before the first ticket
 enqueues_timed : (time : ℕ) (values : List ℕ) → 0 < time → time + length values ≤ ORIGIN → All IsTimed (enqueues_from time values)
 enqueues_timed time [] above within = All-nil IsTimed
 enqueues_timed time (v ∷ values) above within = grind (arith, All-cons, enqueues_timed (time + 1) values)

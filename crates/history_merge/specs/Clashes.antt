@@ -1,4 +1,4 @@
--- What in a history contradicts what.
+-- Events and values that contradict each other.
 use Rattle.std.specs.Prelude.{◌≡◌, ◌≢◌, ℕ, suc, ◌<◌, ◌≤◌, List, Option, Some, slice_get, take}
 use Rattle.event_records.specs.declared.event.Event.{Event}
 use Rattle.history_merge.specs.declared.clash.Clash.{Clash}
@@ -9,31 +9,32 @@ use Rattle.history_merge.specs.declared.fault.HistoryFault.TheVariants.{TicketOr
 use Rattle.history_merge.specs.Complete.{called_value}
 use Rattle.history_merge.specs.Faults.{pending_call}
 
--- the event stands at its place
+-- the event is at its place
 abbrev pub Stands : List Event → Placed → Type 0
 Stands events x = slice_get events x.place ≡ Some x.event
 
--- both events enqueue one value, and no event before the first does
+-- both events call to enqueue one value, and no event before the first does
 pub record AreFirstWith (events : List Event) (x y : Placed) : Type 0 where
   pub value : ℕ
   pub first : called_value x.event.what ≡ Some value
   pub again : called_value y.event.what ≡ Some value
   pub none_before : (i : ℕ) (e : Event) → i < x.place → slice_get events i ≡ Some e → called_value e.what ≢ Some value
 
--- the event enqueues the initial value at this place
+-- the event calls to enqueue the initial value at this place
 pub record EnqueuesInitial (initial : List ℕ) (place : ℕ) (x : Placed) : Type 0 where
   pub value : ℕ
   pub enqueued : called_value x.event.what ≡ Some value
   pub initial_value : slice_get initial place ≡ Some value
 
--- the initial values at these places equal this one
+-- the initial values at these two places equal this value
 pub record AreEqualInitial (initial : List ℕ) (value i j : ℕ) : Type 0 where
   pub earlier : i < j
   pub first : slice_get initial i ≡ Some value
   pub again : slice_get initial j ≡ Some value
 
--- these events, or these initial values, contradict each other: an event and the one before it, whose ticket isn't below; a call and the
--- pending call of its thread; two calls with one value; a call with an initial value; two equal initial values; or the call never returns
+-- two events or initial values contradict each other: the ticket of an event isn't above that of the event before; a
+-- call comes while a call of its thread is pending; two calls have one value; a call has an initial value; two
+-- initial values are equal; or one event, a call, never returns
 abbrev pub IsClash : List ℕ → List Event → Clash → Type 0
 IsClash initial events (clash.Tickets x y) = Stands events x × Stands events y × (suc x.place ≡ y.place) × (y.event.ticket ≤ x.event.ticket)
 IsClash initial events (clash.Calls x y) = Stands events x × Stands events y × (pending_call y.event.thread (take y.place events) ≡ Some x.event)
@@ -42,7 +43,7 @@ IsClash initial events (clash.Initial place x) = Stands events x × EnqueuesInit
 IsClash initial events (clash.Twice value i j) = AreEqualInitial initial value i j
 IsClash initial events (clash.Pending x) = Stands events x × (pending_call x.event.thread events ≡ Some x.event)
 
--- the fault that it explains
+-- the fault that a contradiction explains
 abbrev pub fault_of : Clash → HistoryFault
 fault_of (clash.Tickets x y) = TicketOrder y.place
 fault_of (clash.Calls x y) = CallWhilePending y.place
@@ -51,6 +52,6 @@ fault_of (clash.Initial place x) = DuplicateValue x.place
 fault_of (clash.Twice value i j) = InitialTwice j
 fault_of (clash.Pending x) = Pending x.event.ticket
 
--- they contradict each other, and the fault that this explains is the one that is kept
+-- these contradict each other, and explain the fault that is kept
 abbrev pub Explains : List ℕ → List Event → Option HistoryFault → Clash → Type 0
 Explains initial events kept clash = IsClash initial events clash × (kept ≡ Some (fault_of clash))

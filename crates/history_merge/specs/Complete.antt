@@ -19,7 +19,7 @@ called_value _ = None
 abbrev pub called_values : List Event → List ℕ
 called_values events = filter_map (λ e. called_value e.what) events
 
--- each number stands once
+-- no number is in the list twice
 abbrev pub AreDistinct : List ℕ → Type 0
 AreDistinct values = AllPairs (λ v w. v ≢ w) values
 
@@ -31,23 +31,25 @@ pub record IsCompleteHistory (events : List Event) : Type 0 where
   pub threads_take_turns : (thread : ℕ) → TakesTurns (projection thread events)
   pub values_are_distinct : AreDistinct (called_values events)
 
--- ---- operations on a scale of time, by tickets or by the times of a timeline
+-- ---- operations on a scale of times, by tickets or on a timeline
 
--- the operation returns after its call, or a successful enqueue at its call, and within the scale
+-- the operation returns after its call, or, as a successful enqueue, at its call at the earliest, and within the
+-- scale
 pub record IsTimed (o : Operation) : Type 0 where
   pub returns_late : o.call ≤ o.ret
   pub takes_time : ((v : ℕ) → o.kind ≢ Enq v) → o.call < o.ret
   pub above_zero : 0 < o.ret
   pub in_range : o.ret ≤ MAX_TIME
 
--- the first operation is called before the second, returns at no time of the second, and calls to enqueue another value
+-- the first operation is called before the second, returns at no time of the second, and calls to enqueue another
+-- value
 pub record AreApart (x y : Operation) : Type 0 where
   pub called_first : x.call < y.call
   pub returns_apart : x.ret ≢ y.ret
   pub return_apart : x.ret ≢ y.call
   pub values_apart : (v : ℕ) → enqueued_value x.kind ≡ Some v → ¬ (enqueued_value y.kind ≡ Some v)
 
--- the operations are timed, by rising call, and no two share a time or a value that they call to enqueue
+-- the operations are timed, in the order of their calls, and no two share a time or a value that they call to enqueue
 pub record AreComplete (operations : List Operation) : Type 0 where
   pub timed : All IsTimed operations
   pub apart : AllPairs AreApart operations

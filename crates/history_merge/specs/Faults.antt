@@ -1,4 +1,4 @@
--- The first fault of initial values and a list of events that are no complete history.
+-- The first fault of initial values and events that aren't a complete history.
 use Rattle.std.specs.Prelude.{◌≡◌, ℕ, ◌<◌, ◌≤◌, Bool, false, ◌||◌, ◌&&◌, not, nat_le, nat_lt, nat_eq, List, length, take, slice_get, Option, Some}
 use Rattle.std.specs.Prelude.{None, is_some, is_none, if◌then◌else◌, ⊤, option_and_then, Contains}
 use Rattle.std.specs.Bool.{then_some}
@@ -13,11 +13,11 @@ use Rattle.history_merge.specs.declared.fault.HistoryFault.TheVariants.{Duplicat
 use Rattle.event_records.specs.declared.limits.TheConstants.{MAX_TICKET, MAX_THREAD}
 use Rattle.history_merge.specs.Complete.{AreDistinct, called_value}
 
--- the call of this thread that no event has answered yet: its last event, if that is a call
+-- the pending call of this thread: its last event, if that is a call
 abbrev pub pending_call : ℕ → List Event → Option Event
 pending_call thread events = option_and_then (λ e. then_some (is_call e.what) e) (last_or None (projection thread events))
 
--- whether a call of these events enqueues this value
+-- whether one of the events calls to enqueue this value
 abbrev pub was_called : List Event → ℕ → Bool
 was_called events v = list_any (λ e. option_map_or (λ w. nat_eq w v) (called_value e.what) false) events
 
@@ -29,7 +29,7 @@ breaks_ticket_order before e = nat_lt MAX_TICKET e.ticket || option_map_or (λ l
 abbrev pub answers_pending : Option Event → Event → Bool
 answers_pending pending e = option_map_or (λ call. answers call.what e.what) pending false
 
--- whether the event calls with a value that was called before
+-- whether the event calls to enqueue a value that an earlier event called to enqueue
 abbrev pub repeats_value : List Event → Event → Bool
 repeats_value before e = option_map_or (was_called before) (called_value e.what) false
 
@@ -37,12 +37,12 @@ repeats_value before e = option_map_or (was_called before) (called_value e.what)
 abbrev pub is_initial : List ℕ → ℕ → Bool
 is_initial initial v = list_any (λ w. nat_eq w v) initial
 
--- whether the event calls with an initial value
+-- whether the event calls to enqueue an initial value
 abbrev pub calls_initial : List ℕ → Event → Bool
 calls_initial initial e = option_map_or (is_initial initial) (called_value e.what) false
 
--- the first rule, in this order, that the event at this place breaks after the events before it; the last rule is that its value is
--- new, among the initial ones too
+-- the first rule, in this order, that the event at this place breaks after the events before it; the last rule is
+-- that its value is new, also among the initial ones
 abbrev pub fault_at : List ℕ → List Event → ℕ → Event → Option HistoryFault
 fault_at initial before i e =
     let pending = pending_call e.thread before in
@@ -63,17 +63,17 @@ abbrev pub IsFirstFaultAt : List ℕ → List Event → ℕ → HistoryFault →
 IsFirstFaultAt initial events i fault = AreDistinct initial × NoFaultBefore initial events i
     × ((e : Event) × (slice_get events i ≡ Some e) × (fault_at initial (take i events) i e ≡ Some fault))
 
--- this is the least ticket of a call without return
+-- this is the least ticket of a call without a return
 abbrev pub IsLeastPending : List Event → ℕ → Type 0
 IsLeastPending events ticket =
     ((thread : ℕ) × (call : Event) × (pending_call thread events ≡ Some call) × (call.ticket ≡ ticket))
     × ((thread : ℕ) (call : Event) → pending_call thread events ≡ Some call → ticket ≤ call.ticket)
 
--- the initial value at place j stands before it too, and those before it are distinct
+-- the initial value at place j equals an earlier one, and those before it are distinct
 abbrev pub IsFirstTwice : List ℕ → ℕ → Type 0
 IsFirstTwice initial j = AreDistinct (take j initial) × ((v : ℕ) × (slice_get initial j ≡ Some v) × Contains (take j initial) v)
 
--- what is wrong with the initial values, else with the events, the first in their order; running out of memory says nothing of them
+-- the first fault of the initial values, else that of the events; running out of memory says nothing about them
 abbrev pub IsFirstFault : List ℕ → List Event → HistoryFault → Type 0
 IsFirstFault initial events (TicketOrder i) = IsFirstFaultAt initial events i (TicketOrder i)
 IsFirstFault initial events (BadThread i) = IsFirstFaultAt initial events i (BadThread i)

@@ -1,4 +1,4 @@
--- Operations of events after which more may come.
+-- Operations of events so far, while more may come.
 use Rattle.std.specs.Prelude.{ℕ, suc, List, [], ◌∷◌, Option, Some, None, find, nat_eq, if◌then◌else◌}
 use Rattle.event_records.specs.declared.event.Event.{Event}
 use Rattle.event_records.specs.declared.event.What.{What}
@@ -8,18 +8,18 @@ use Rattle.history_merge.specs.declared.operation.Operation.{Operation}
 use Rattle.history_merge.specs.declared.operation.OpKind.{OpKind}
 use Rattle.history_merge.specs.declared.operation.OpKind.TheVariants.{Enq, Deq, Empty, Not}
 
--- what an operation counts as while it is pending: an enqueue as accepted, a dequeue as empty
+-- the kind that an operation counts as while it is pending: a successful enqueue, or an empty dequeue
 abbrev pub begun : What → OpKind
 begun (CallEnq v) = Enq v
 begun _ = Empty
 
--- what it did, when the answer is there
+-- the kind of the operation after its return
 abbrev pub answered : OpKind → What → OpKind
 answered (Enq v) RetNot = Not v
 answered Empty (RetDeq v) = Deq v
 answered kind _ = kind
 
--- the operation of a call, and of the next event of its thread if there is one; while there is none its return is 0
+-- the operation of a call and of the next event of its thread, if there is one; otherwise its return is 0
 abbrev pub operation_so_far : Event → Option Event → Operation
 operation_so_far call None = record { call = call.ticket; ret = 0; thread = call.thread; kind = begun call.what }
 operation_so_far call (Some answer) = record { call = call.ticket; ret = answer.ticket; thread = call.thread; kind = answered (begun call.what) answer.what }
@@ -30,7 +30,7 @@ operations_so_far [] = []
 operations_so_far (e ∷ later) =
     (if is_call e.what then operation_so_far e (find (λ r. nat_eq r.thread e.thread) later) ∷ operations_so_far later else operations_so_far later)
 
--- the call of this thread after which no event of the thread comes, with its place among the operations
+-- the call of this thread that no event of the thread follows, with its place among the operations
 abbrev pub waiting : ℕ → List Event → Option (ℕ × Event)
 waiting thread [] = None
 waiting thread (e ∷ later) = elim (waiting thread later) [

@@ -1,4 +1,4 @@
--- What a history builder keeps of what its queue holds at first, and of its events.
+-- The state of a history builder after these initial values and events.
 use Rattle.std.specs.Prelude.{◌≡◌, Bool, ℕ, ◌+◌, ◌<◌, ◌≤◌, ◌/◌, ◌⊎◌, min, nat_eq, true, List, [], length, IfSome, MatchOption, MatchResult}
 use Rattle.std.specs.Prelude.{option_map, slice_index_or, All, IsSome, None, Some, Result, ◌∷◌, ◌++◌}
 use Rattle.std.specs.List.{last_or, list_any}
@@ -22,18 +22,20 @@ use Rattle.history_merge.specs.Forming.{operations_so_far, waiting}
 abbrev pub is_among : List ℕ → ℕ → Bool
 is_among values v = list_any (λ w. nat_eq w v) values
 
--- the upper half of a value's bits, up to the first number that no thread has
+-- the upper half of a value's bits, or the first number that names no thread if that is less
 abbrev pub name_in : ℕ → ℕ
 name_in v = min (v / NAMES_OF_A_THREAD) MAX_THREADS
 
--- it is known which these values are: each is below the least that its name may have next, or that is LOOSE and a set has it
+-- the known values are exactly these: each is below the least next value of its name, or that is `LOOSE` and a set
+-- has it
 pub record Knows (values : List ℕ) (called : CalledValues) : Type 0 where
   pub one_each : length called.least ≡ MAX_THREADS + 1
   pub rising : (v : ℕ) → is_among values v ≡ true → slice_index_or called.least (name_in v) 0 < LOOSE → v < slice_index_or called.least (name_in v) 0
   pub loose : (v : ℕ) → slice_index_or called.least (name_in v) 0 ≡ LOOSE → contains nat_cmp called.loose v ≡ is_among values v
   pub only : (v : ℕ) → contains nat_cmp called.loose v ≡ true → is_among values v ≡ true
 
--- the operations of the events are there, the least ticket above theirs, and the place of each thread's pending call
+-- the operations are those of the events, the least ticket is above theirs, and each thread has the place of its
+-- pending call
 pub record HasFormed (events : List Event) (forming : Forming) : Type 0 where
   pub operations : forming.timeline.operations ≡ operations_so_far events
   pub least_ticket : forming.least_ticket ≡ option_map_or (λ e. e.ticket + 1) (last_or None events) 0
@@ -42,13 +44,13 @@ pub record HasFormed (events : List Event) (forming : Forming) : Type 0 where
   pub places : (thread : ℕ) → thread ≤ MAX_THREAD → slice_index_or forming.pending thread None ≡ option_map (λ found. found.0) (waiting thread events)
   pub threads_in_range : All (λ e. e.thread ≤ MAX_THREAD) events
 
--- the event at this place was added, and has no fault; otherwise it has this one, or memory ran out, and it wasn't added
+-- the event at this place was added and has no fault; or it has this fault, or memory ran out, and it wasn't added
 abbrev pub IsTaken : List ℕ → List Event → Event → ℕ → Result (Unit {0}) HistoryFault → Forming → Type 0
 IsTaken initial events e place result forming =
     MatchResult result (λ _. HasFormed (events ++ e ∷ []) forming × (fault_at initial events place e ≡ None))
     (λ fault. HasFormed events forming × ((fault ≡ Memory) ⊎ (fault_at initial events place e ≡ Some fault)))
 
--- the initial values are distinct, the events have no fault so far, and all that a next event is judged by is there
+-- the initial values are distinct, the events have no fault so far, and all that the next event is judged by is there
 pub record IsForming (initial : List ℕ) (events : List Event) (gathering : Gathering) : Type 0 where
   pub initial_is : gathering.forming.timeline.initial ≡ initial
   pub distinct : AreDistinct initial
@@ -57,7 +59,7 @@ pub record IsForming (initial : List ℕ) (events : List Event) (gathering : Gat
   pub count : gathering.count ≡ length events
   pub no_fault : NoFaultBefore initial events (length events)
 
--- an initial value stands twice; or out of memory, which says nothing of them
+-- an initial value equals an earlier one; or memory ran out, which says nothing about them
 abbrev pub HasRefusedInitial : List ℕ → HistoryFault → Type 0
 HasRefusedInitial initial fault = (fault ≡ Memory) ⊎ ((j : ℕ) × (fault ≡ InitialTwice j) × IsFirstTwice initial j)
 
@@ -65,21 +67,21 @@ HasRefusedInitial initial fault = (fault ≡ Memory) ⊎ ((j : ℕ) × (fault �
 abbrev pub HasMetFault : List ℕ → List Event → HistoryFault → Type 0
 HasMetFault initial events fault = HasRefusedInitial initial fault ⊎ ((i : ℕ) × IsFirstFaultAt initial events i fault)
 
--- the event was added, and has no fault; otherwise its fault was met, and what was there of the events before stays
+-- the event was added and has no fault; or its fault was found, and what was known of the earlier events stays
 abbrev pub IsFollowed : List ℕ → List Event → Event → Result (Unit {0}) HistoryFault → Gathering → Type 0
 IsFollowed initial events e result gathering =
     MatchResult result (λ _. IsForming initial (events ++ e ∷ []) gathering)
     (λ fault. HasMetFault initial (events ++ e ∷ []) fault
     × ((gathering.forming.timeline.initial ≡ initial) × HasFormed events gathering.forming × (gathering.count ≡ length events)))
 
--- a history builder started with these initial values, and these events were added, one after another
+-- the builder started with these initial values, and these events were added in turn
 pub record HasGathered (initial : List ℕ) (events : List Event) (gathering : Gathering) : Type 0 where
   pub few_initial : length initial ≤ MAX_INITIAL
   pub few : length events ≤ MAX_EVENTS
   pub gathered : MatchOption gathering.fault (IsForming initial events gathering) (HasMetFault initial events)
   pub clash : IfSome gathering.clash (Explains initial events gathering.fault)
 
--- what contracts see of a history builder
+-- the builder as contracts see it
 abbrev pub BuilderView : Type 0
 BuilderView = Gathering
 

@@ -6,7 +6,7 @@ use Rattle.history_merge.specs.Initial.{HistoryView, IsCompleteFrom}
 use Rattle.history_merge.specs.Legal.{ArePlacesOf}
 use Rattle.history_merge.specs.Operations.{operations_of}
 
--- these events are those of a complete history with these initial values, whose operations stand at these places of the whole
+-- these events are a complete history with these initial values, whose operations are at these places of the whole
 pub record IsPartAt (whole : HistoryView) (initial places : List ℕ) (events : List Event) : Type 0 where
   pub complete : IsCompleteFrom initial events
   pub few : length events ≤ MAX_EVENTS

@@ -13,12 +13,12 @@ use std::alloc::Global;
 /// Makes the complete history of these events (Herlihy and Wing 1990) of a queue that is empty at first, or returns
 /// their first fault.
 ///
-/// It judges the events one by one. The first faulty event decides, and of its faults the one that [`HistoryFault`]
+/// The events are judged one by one. The first faulty event decides, and of its faults the one that [`HistoryFault`]
 /// lists first. If no event has a fault, `Pending` names the least call ticket without a return. `Memory` comes if
-/// memory runs out, and then says nothing of the events.
+/// memory runs out, and then says nothing about the events.
 ///
-/// The history takes 20 bytes for each operation. Time O(n) for n events whose values have a recorder's names,
-/// otherwise O(n log n) and memory for a set of the others.
+/// The history takes 20 bytes for each operation. Takes O(n) time for n events whose values have a recorder's names,
+/// otherwise O(n log n) and memory for a set of the other values.
 ///
 /// An enqueue of 7 is a history of one operation:
 ///
@@ -46,15 +46,15 @@ pub fn history(alloc: Global, events: &[Event]) -> Result<History, HistoryFault>
     history_from(alloc, Vec::new(alloc), events)
 }
 
-/// Makes the complete history of these events (Herlihy and Wing 1990) of a queue that holds these values at first,
-/// its front first; or returns the first fault.
+/// Makes the complete history of these events (Herlihy and Wing 1990) of a queue that holds the initial values at
+/// first, front first; or returns the first fault.
 ///
-/// It judges the initial values first: `InitialTwice` names the first that stands among them earlier too. It judges
-/// the events as [`history`] does, and a call with an initial value has the fault `DuplicateValue` too. `Memory`
-/// comes if memory runs out, and then says nothing of the values and the events.
+/// The initial values are judged first: `InitialTwice` names the first that equals an earlier one. Then the events
+/// are judged as by [`history`], but a call to enqueue an initial value has the fault `DuplicateValue` too. `Memory`
+/// comes if memory runs out, and then says nothing about the values and the events.
 ///
-/// It takes 28 bytes for each initial value. Time is that of [`history`], and O(k) more for k initial values if these rise
-/// and their upper halves name no thread, as a recorder's do; otherwise O(k log k), and memory for a set of them.
+/// Each initial value takes 28 bytes. The time is that of [`history`], and O(k) more for k initial values that rise
+/// and whose upper halves name no thread, as a recorder's do; otherwise O(k log k), and memory for a set of them.
 ///
 /// The queue holds 7 at first, and `events` dequeue it:
 ///

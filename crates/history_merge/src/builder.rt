@@ -1,4 +1,4 @@
-//! The builder of a history whose queue starts with some values.
+//! The builder of a history whose queue holds some values first.
 ghost use Rattle.std.specs.Prelude.{◌≡◌, ◌<◌, ◌≤◌, ℕ, List, [], ◌∷◌, ◌++◌, None, IfErr, IfOk, IfSome, IsErr, MatchResult, length, vec_len};
 ghost use Rattle.event_records.specs.declared.event.Event.{Event};
 ghost use Rattle.event_records.specs.declared.limits.TheConstants.{MAX_EVENTS, MAX_INITIAL};
@@ -15,11 +15,11 @@ use event_records::Event;
 use std::alloc::Global;
 use std::marker::Model;
 
-/// Builds a complete history (Herlihy and Wing 1990, section 2.1): it takes events one by one, and `finish` returns
-/// the history or the first fault.
+/// A builder of a complete history (Herlihy and Wing 1990, section 2.1). It takes events one by one, and `finish`
+/// returns the history or the first fault.
 ///
-/// It keeps the operations alone, after an enqueue for each initial value, as long as the values of each thread have
-/// its name and rise, and the initial values rise too; otherwise also a set of the values of the names that don't.
+/// It keeps the operations alone, after an enqueue for each initial value, as long as the initial values rise and the
+/// values of each thread have its name and rise. For names whose values don't, it keeps a set of these too.
 ///
 /// The builder takes `events` one by one:
 ///
@@ -49,9 +49,10 @@ impl Model for HistoryBuilder {
 }
 
 impl HistoryBuilder {
-    /// Begins with these initial values and no events. It keeps a fault of theirs, also out of memory, for `finish`.
+    /// Makes a builder with these initial values and no events. A fault of the values, also out of memory, is kept
+    /// for `finish`.
     ///
-    /// Time O(k) for k values that rise, otherwise O(k log k).
+    /// Takes O(k) time for k values that rise, otherwise O(k log k).
     pub fn new(alloc: Global, initial: Vec<u64>) -> HistoryBuilder
         requires { vec_len initial ≤ MAX_INITIAL }
         ensures { HasGathered initial.items [] result }
@@ -61,13 +62,13 @@ impl HistoryBuilder {
         }
     }
 
-    /// Adds an event. It keeps a fault, also out of memory, for `finish`.
+    /// Adds an event. A fault, also out of memory, is kept for `finish`.
     ///
-    /// There is room for [`event_records::MAX_EVENTS`] events. The builder doesn't take one more, and `finish` then
-    /// returns `Memory` unless the builder keeps another fault.
+    /// There is room for [`event_records::MAX_EVENTS`] events. One more isn't added, and `finish` then returns
+    /// `Memory`, unless another fault is kept.
     ///
-    /// Time O(1) as long as the values rise, otherwise O(log n) after n events and initial values; sometimes it grows
-    /// its memory.
+    /// Takes O(1) time as long as the values rise, otherwise O(log n) after n events and initial values. Sometimes
+    /// the memory grows.
     #[tactic(auto, using(std::proofs::lemmas::Bool::cases_lt))]
     #[inline(always)]
     pub fn add(&mut self, event: Event)
@@ -79,11 +80,11 @@ impl HistoryBuilder {
         self.gathering.add(event);
     }
 
-    /// Returns what contradicts what at the first fault, if that is a `TicketOrder`, `CallWhilePending`, `DuplicateValue`,
-    /// `Pending` or `InitialTwice`, and memory didn't run out; [`Clash::fault`] is that fault then. A ticket above
-    /// [`event_records::MAX_TICKET`] contradicts no other event.
+    /// Returns the events or values that contradict each other at the first fault, if that is a `TicketOrder`,
+    /// `CallWhilePending`, `DuplicateValue`, `Pending` or `InitialTwice`, and memory didn't run out. [`Clash::fault`]
+    /// is that fault then. A ticket above [`event_records::MAX_TICKET`] contradicts no other event.
     ///
-    /// Time O(n) if there is a fault, otherwise O(1).
+    /// Takes O(n) time if there is a fault, otherwise O(1).
     pub fn clash(&self) -> Option<Clash>
         ensures clash { (initial : List ℕ) (events : List Event) → HasGathered initial events self.now → IfSome result (IsClash initial events) }
         ensures fault { (initial : List ℕ) (events : List Event) → HasGathered initial events self.now
@@ -95,10 +96,11 @@ impl HistoryBuilder {
 
     /// Returns the history of the initial values and the events if it is complete, otherwise the first fault.
     ///
-    /// The initial values come first: `InitialTwice` takes precedence over all other faults but `Memory`. Of the
-    /// events the first faulty one decides, and of its faults the one that [`HistoryFault`] lists first; a call with
-    /// an initial value has the fault `DuplicateValue` too. If no event has a fault, `Pending` names the least call
-    /// ticket without a return. `Memory` comes if memory ran out, and then says nothing of the values and the events.
+    /// `InitialTwice`, the fault of initial values, takes precedence over all others but `Memory`. Of the events the
+    /// first faulty one decides, and of its faults the one that [`HistoryFault`] lists first; a call to enqueue an
+    /// initial value has the fault `DuplicateValue` too. If no event has a fault, `Pending` names the least call
+    /// ticket without a return. `Memory` comes if memory ran out, and then says nothing about the values and the
+    /// events.
     #[tactic(auto, using(crate::proofs::Faults::complete_has_no_fault))]
     pub fn finish(self) -> Result<History, HistoryFault>
         ensures outcome { (initial : List ℕ) (events : List Event) → HasGathered initial events self

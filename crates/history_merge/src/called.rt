@@ -1,4 +1,4 @@
-//! The values that a queue holds first and that calls had so far.
+//! The values known so far: the initial ones and those that were called to be enqueued.
 ghost use Rattle.std.specs.Prelude.{◌≡◌, ◌++◌, ◌∷◌, [], ℕ, List, ◌||◌, ◌&&◌, ◌+◌, ◌<◌, false, nat_eq, slice_index_or, IfErr, IfOk, OnOk};
 ghost use Rattle.event_records.specs.declared.limits.TheConstants.{MAX_THREADS};
 ghost use Rattle.history_merge.specs.declared.called.TheConstants.{LOOSE};
@@ -17,20 +17,21 @@ use event_records::{MAX_THREADS, NAMES_OF_A_THREAD, What};
 use std::alloc::{AllocError, Global};
 use std::collections::BTreeSet;
 
-/// The values that a queue holds first and that calls had so far.
+/// The values known so far: the initial ones and those that were called to be enqueued.
 ///
-/// A recorder puts the thread into the upper half of a value's bits, and the values of one thread rise. So may those
-/// that the queue holds first, whose upper halves are above all threads. As long as the values of a thread rise, one
-/// number shows that the next one is new; so does one for all values that no thread names. Once one doesn't rise, a set
-/// holds the values of that name.
+/// A recorder puts the thread into the upper half of a value's bits, and the values of one thread rise. Initial
+/// values may rise too, with upper halves above all threads. As long as the values of a thread rise, one number shows
+/// that the next one is new. One more number does so for all values that name no thread. Once a value doesn't rise, a
+/// set holds the values of its name.
 #[derive(Drop)]
 pub(crate) struct CalledValues {
-    // The least that may come next, of each thread and of all values that no thread names; LOOSE if a set holds them.
+    // The least value that may come next, for each thread and for all values that name no thread; `LOOSE` if a set
+    // holds them.
     least: [u64; MAX_THREADS + 1],
     loose: BTreeSet<u64>,
 }
 
-/// Above all that may come next of values that rise.
+/// The mark of a name whose values a set holds. It is above each least next value of names whose values rise.
 const LOOSE: u64 = u64::MAX;
 
 impl CalledValues {
@@ -43,7 +44,7 @@ impl CalledValues {
         }
     }
 
-    /// Notes what the queue holds first, up to the first value that stands twice, whose fault it returns.
+    /// Notes the initial values. Returns the fault of the first that equals an earlier one.
     pub(crate) fn note_initial(&mut self, timeline: &Timeline) -> Result<(), HistoryFault>
         requires new { Knows [] self.old }
         ensures noted { IfOk result (λ _. Knows timeline.now.initial self.new × AreDistinct timeline.now.initial) }
@@ -58,8 +59,8 @@ impl CalledValues {
         Ok(())
     }
 
-    /// Whether the event calls with a value that was noted before; it notes the value. The operations called with all
-    /// values that were noted.
+    /// Returns whether the event calls to enqueue a value that was noted before, and notes the value. `operations`
+    /// called to enqueue all values noted so far.
     #[inline(always)]
     pub(crate) fn note(
         &mut self,
@@ -89,7 +90,7 @@ impl CalledValues {
         self.note_loose(value, operations)
     }
 
-    /// Does so for a value that doesn't rise, or after one of the same name.
+    /// Slow path of `note_value`: notes a value that doesn't rise, or comes after one of the same name that didn't.
     #[inline(never)]
     fn note_loose(&mut self, value: u64, operations: &[PackedOperation]) -> Result<bool, AllocError>
         ensures { (values : List ℕ) → Knows values self.old → AreCalledIn operations.now values
@@ -99,7 +100,7 @@ impl CalledValues {
         Ok(!self.loose.insert(value)?)
     }
 
-    /// Has the set hold the values of this name.
+    /// Moves the values of this name into the set.
     fn loosen(&mut self, name: usize, operations: &[PackedOperation]) -> Result<(), AllocError>
         requires { name < MAX_THREADS + 1 }
         ensures { (values : List ℕ) → Knows values self.old → AreCalledIn operations.now values
@@ -114,7 +115,7 @@ impl CalledValues {
     }
 }
 
-/// Returns the upper half of a value's bits, up to the first number that no thread has.
+/// Returns the upper half of a value's bits, or the first number that names no thread if that is less.
 fn name_in(value: u64) -> usize
     ensures { result ≡ name_in value }
 {
@@ -131,7 +132,7 @@ pub(crate) fn called_value(what: What) -> Option<u64>
     }
 }
 
-/// Adds those values of the calls of these operations that have this name.
+/// Adds the values of this name that the operations called to enqueue.
 fn add_named(
     values: &mut BTreeSet<u64>,
     name: usize,

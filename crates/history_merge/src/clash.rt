@@ -1,4 +1,4 @@
-//! What in a history contradicts what: the events and values that a message about a fault names.
+//! Events and values that contradict each other, which a message about a fault names.
 ghost use Rattle.std.specs.Prelude.{◌≡◌, ◌≤◌, ◌∷◌, ◌++◌, [], ℕ, List, IfSome, IsTrue, ◌↔◌, length, slice_get};
 ghost use Rattle.event_records.specs.declared.event.Event.{Event};
 ghost use Rattle.event_records.specs.declared.limits.TheConstants.{MAX_EVENTS};
@@ -13,32 +13,32 @@ use crate::fault::HistoryFault;
 use crate::forming::Forming;
 use event_records::Event;
 
-/// An event, and its place from 0 among all.
+/// An event, and its place among all, from 0.
 #[derive(Clone, Copy, Debug, PartialEq, Eq)]
 pub struct Placed {
     pub place: usize,
     pub event: Event,
 }
 
-/// What in a history contradicts what.
+/// Events or values that contradict each other.
 #[derive(Clone, Copy, Debug, PartialEq, Eq)]
 pub enum Clash {
     /// The ticket of the second event isn't above that of the first, the event before it.
     Tickets(Placed, Placed),
-    /// The second event is a call of a thread whose pending call is the first.
+    /// The second event is a call of a thread whose call, the first event, is still pending.
     Calls(Placed, Placed),
-    /// Both events enqueue one value, and no event before the first does.
+    /// Both events call to enqueue the same value, and no event before the first does.
     Values(Placed, Placed),
-    /// The event enqueues the initial value at this place.
+    /// The event calls to enqueue the initial value at this place.
     Initial(usize, Placed),
-    /// The initial values at these places equal this one.
+    /// The initial values at these two places both equal this value.
     Twice(u64, usize, usize),
     /// The call of this event has no return.
     Pending(Placed),
 }
 
 impl Clash {
-    /// The fault that it explains.
+    /// Returns the fault that this explains.
     pub fn fault(&self) -> HistoryFault
         ensures { result ≡ fault_of self.now }
     {
@@ -54,7 +54,7 @@ impl Clash {
     }
 }
 
-/// By what an event is looked for.
+/// A property by which an event is searched for.
 #[derive(Clone, Copy)]
 pub(crate) enum Sought {
     Place(usize),
@@ -76,7 +76,7 @@ impl Sought {
     }
 }
 
-/// The first of the events that is looked for.
+/// Returns the first event with the property.
 #[tactic(auto, using(crate::proofs::Faults::searched_more))]
 fn first_of(events: Events<'_>, sought: Sought) -> Option<Placed>
     ensures { length events.entry ≤ MAX_EVENTS → IfSome result (IsFirstSought events.entry sought) }
@@ -92,7 +92,7 @@ fn first_of(events: Events<'_>, sought: Sought) -> Option<Placed>
     None
 }
 
-/// The first of the events of these operations that is looked for. Time O(n).
+/// Returns the first event of these operations with the property. Takes O(n) time.
 pub(crate) fn first_event(forming: &Forming, sought: Sought) -> Option<Placed>
     requires { AreOfRun forming.now.timeline.operations }
     ensures { (events : List Event) → IsRunOf events forming.now.timeline.operations → length events ≤ MAX_EVENTS
@@ -101,7 +101,7 @@ pub(crate) fn first_event(forming: &Forming, sought: Sought) -> Option<Placed>
     first_of(forming.events(), sought)
 }
 
-/// What an event that has this fault contradicts, of the events before it and the initial values. Time O(n).
+/// Returns the earlier event or initial value that an event with this fault contradicts. Takes O(n) time.
 #[tactic(auto, using(crate::proofs::Faults::standing))]
 #[inline(never)]
 pub(crate) fn clash_of(fault: HistoryFault, later: Placed, forming: &Forming) -> Option<Clash>
@@ -132,7 +132,7 @@ pub(crate) fn clash_of(fault: HistoryFault, later: Placed, forming: &Forming) ->
     }
 }
 
-/// The place of the first of the values that equals this one.
+/// Returns the place of the first of the values that equals this one.
 fn first_place(values: &[u64], value: u64) -> Option<usize>
     ensures { IfSome result (λ place. slice_get values.now place ≡ Some value) }
 {
@@ -144,7 +144,7 @@ fn first_place(values: &[u64], value: u64) -> Option<usize>
     None
 }
 
-/// What initial values that have this fault contradict. Time O(k) for k values.
+/// Returns the initial values that contradict each other, if this is their fault. Takes O(k) time for k values.
 pub(crate) fn clash_of_initial(fault: Option<HistoryFault>, initial: &[u64]) -> Option<Clash>
     ensures clash { (events : List Event) → IfSome result (IsClash initial.now events) }
     ensures fault { IfSome result (λ clash. fault ≡ Some (fault_of clash)) }

@@ -13,14 +13,14 @@ use crate::timeline::Timeline;
 use event_records::{MAX_EVENTS, MAX_INITIAL};
 use std::marker::Model;
 
-/// A complete history of distinct values (Herlihy and Wing 1990, section 2.1), seen as what its queue holds at first
-/// and the list of its events.
+/// A complete history of distinct values (Herlihy and Wing 1990, section 2.1), seen as its initial values and the
+/// list of its events.
 ///
-/// Each value of this type is one: tickets rise, each thread's calls and returns alternate, each call has a return,
-/// no two calls enqueue one value, and the initial values are distinct and enqueued by no call.
+/// Each value of this type is complete: tickets rise, each thread's calls and returns alternate, each call has a
+/// return, no two calls enqueue one value, and the initial values are distinct and enqueued by no call.
 ///
-/// It keeps the initial values and the operations by time, from which it restores operations and events. That takes 20
-/// bytes for each operation, and 28 for each initial value.
+/// It keeps the initial values and the operations by time, from which it restores operations and events. This takes
+/// 20 bytes for each operation, and 28 for each initial value.
 #[derive(Debug, Drop)]
 pub struct History {
     timeline: Timeline,
@@ -50,7 +50,7 @@ impl History {
         History { timeline }
     }
 
-    /// Returns what it keeps.
+    /// Returns the timeline of the history.
     pub(crate) fn timeline(&self) -> &Timeline
         ensures initial { result.now.initial ≡ self.now.initial }
         ensures operations { result.now.operations ≡ operations_of self.now.events }
@@ -59,7 +59,7 @@ impl History {
         &self.timeline
     }
 
-    /// Returns the values that the queue holds before the first event, front first.
+    /// Returns the initial values, which the queue holds before the first event, front first.
     pub fn initial(&self) -> &[u64]
         ensures initial { result.now ≡ self.now.initial }
         ensures complete { IsCompleteFrom self.now.initial self.now.events }
@@ -68,8 +68,8 @@ impl History {
         self.timeline.initial()
     }
 
-    /// Returns the events, by rising ticket. It counts them, in time O(n), restores them from the operations one by one,
-    /// and takes no memory.
+    /// Returns the events in rising order of tickets. They are counted, in O(n) time, and restored from the
+    /// operations one by one, without taking memory.
     pub fn events(&self) -> Events<'_>
         ensures events { result ≡ self.now.events }
         ensures complete { IsCompleteHistory self.now.events }
@@ -79,7 +79,8 @@ impl History {
         Events::new(self.operations())
     }
 
-    /// Returns the operations, in the order of their calls. The place of one in this list is its [`crate::OpId`].
+    /// Returns the operations in the order of their calls. The index of an operation in this list is its
+    /// [`crate::OpId`].
     #[tactic(auto, using(crate::proofs::Distinct::few_operations))]
     pub fn operations(&self) -> Operations<'_>
         ensures operations { result ≡ operations_of self.now.events }
@@ -91,9 +92,11 @@ impl History {
         self.timeline.operations()
     }
 
-    /// Returns what happens on the one scale of time: the enqueues of the initial values, each within one time, of which
-    /// the last comes just before the time of ticket 0; and then the operations at the times of their tickets. It is for
-    /// passes over both, and takes no memory.
+    /// Returns the timeline: the enqueues of the initial values, and then the operations at the times of their
+    /// tickets. The enqueue of an initial value is called and returns at one time, the last of them just before the
+    /// time of ticket 0.
+    ///
+    /// This is for passes over both, and takes no memory.
     pub fn by_time(&self) -> &[PackedOperation]
         ensures by_time { result.now ≡ initial_enqueues self.now.initial ++ map (later_by ORIGIN) (operations_of self.now.events) }
         ensures complete { AreComplete result.now }

@@ -10,19 +10,19 @@ use event_records::{Event, MAX_THREADS};
 use std::iter::{ExactSizeIterator, FusedIterator};
 use std::marker::Model;
 
-/// The events of a history by rising ticket, seen as the list of those that are left.
+/// An iterator over the events of a history in rising order of tickets, seen as the list of those that are left.
 ///
-/// It restores them from the operations one by one. It takes no memory, and each step takes a look at the return that each
-/// thread's pending call waits for.
+/// It restores them from the operations one by one, without taking memory. Each step looks at the due return of each
+/// thread.
 #[derive(Debug, Drop)]
 pub struct Events<'a> {
     // The operations whose calls are left.
     by_call: Operations<'a>,
     // For each thread the return that comes before its next call.
     due: [Option<Event>; MAX_THREADS],
-    // No thread from this one on has one.
+    // The threads from this number on have no return due.
     threads: usize,
-    // How many events are left.
+    // The number of events that are left.
     left: usize,
 }
 
@@ -44,7 +44,7 @@ impl<'a> Model for Events<'a> {
 }
 
 impl<'a> Events<'a> {
-    /// Makes the events of operations in the order of their calls, of which some may be pending. Time O(n).
+    /// Makes the iterator of operations in the order of their calls, some of which may be pending. Takes O(n) time.
     #[tactic(auto, using(crate::proofs::TheirEvents::put_none, crate::proofs::TheirEvents::left_as_told, crate::proofs::TheirEvents::all_left))]
     pub(crate) fn new(operations: Operations<'a>) -> Events<'a>
         requires { AreOfRun operations }
@@ -96,7 +96,7 @@ impl<'a> ExactSizeIterator for Events<'a> {
 
 impl<'a> FusedIterator for Events<'a> {}
 
-/// How many events these operations have.
+/// Returns the number of events of these operations.
 fn event_count(operations: &Operations<'_>) -> usize
     ensures { result ≡ length (events_of operations.now) }
 {
@@ -109,7 +109,7 @@ fn event_count(operations: &Operations<'_>) -> usize
     count
 }
 
-/// The return of the operation, if it isn't pending.
+/// Returns the return of the operation, or none while it is pending.
 #[inline(always)]
 fn maybe_return(operation: Operation) -> Option<Event>
     ensures { result ≡ maybe_return operation }
@@ -121,7 +121,7 @@ fn maybe_return(operation: Operation) -> Option<Event>
     }
 }
 
-/// The first by ticket of these returns.
+/// Returns the due return with the least ticket.
 #[inline(always)]
 fn first_due(due: &[Option<Event>]) -> Option<Event>
     ensures { IsFirstDue due.now (length due.now) result }
@@ -137,7 +137,7 @@ fn first_due(due: &[Option<Event>]) -> Option<Event>
     first
 }
 
-/// The first operation and those after it, unless the return that is due comes before its call.
+/// Returns the first operation and those after it, unless the due return comes before its call.
 #[inline(always)]
 fn call_before<'a>(
     by_call: &Operations<'a>,

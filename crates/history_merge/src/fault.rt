@@ -6,28 +6,28 @@ use std::alloc::AllocError;
 use std::error::Error;
 use std::fmt;
 
-/// Why initial values and a list of events are no complete history. Places count from 0.
+/// The reason why initial values and events aren't a complete history. Places count from 0.
 ///
-/// If one event has several faults, the one that stands first here is returned.
+/// If one event has several faults, the one that is listed first here is returned.
 #[derive(Clone, Copy, Debug, PartialEq, Eq)]
 pub enum HistoryFault {
-    /// The ticket of the event at this place is not above that of the event before, or is above `MAX_TICKET`.
+    /// The ticket of the event at this place isn't above that of the event before it, or is above `MAX_TICKET`.
     TicketOrder(usize),
     /// The thread of the event at this place is above `MAX_THREAD`.
     BadThread(usize),
-    /// The event at this place is a call, and the last event of its thread was a call too.
+    /// The event at this place is a call, but the thread's last event was a call too.
     CallWhilePending(usize),
-    /// The event at this place is a return, and its thread has no pending call.
+    /// The event at this place is a return, but its thread has no pending call.
     ReturnWithoutCall(usize),
-    /// The event at this place is a return of another kind than its thread's call.
+    /// The event at this place is a return, but not of the kind of its thread's call.
     WrongReturn(usize),
-    /// The event at this place calls to enqueue an initial value, or one that an earlier event called to enqueue.
+    /// The event at this place calls to enqueue an initial value, or a value that an earlier event called to enqueue.
     DuplicateValue(usize),
     /// No event has a fault, but the call of this ticket has no return, and each call before it has one.
     Pending(u64),
     /// Memory ran out.
     Memory,
-    /// The initial value at this place stands among them earlier too. This is looked for before the events.
+    /// The initial value at this place equals an earlier one. This is checked before the events.
     InitialTwice(usize),
 }
 
@@ -52,7 +52,7 @@ impl From<AllocError> for HistoryFault {
 }
 
 impl HistoryFault {
-    /// Returns its name, which is printed before its place or its ticket.
+    /// Returns the name of the fault, which is printed before its place or ticket.
     pub fn name(self) -> &'static str
         ensures name { result.now ≡ name_of self }
         ensures short { length result.now ≤ 20 }
@@ -70,7 +70,7 @@ impl HistoryFault {
         }
     }
 
-    /// Returns the place of its event or of its initial value, or the ticket of a call without a return.
+    /// Returns the place of the faulty event or initial value, or the ticket of the call without a return.
     pub fn place(self) -> Option<u64>
         ensures { result ≡ place_in self }
     {

@@ -1,4 +1,4 @@
-//! The operations of events after which more may come.
+//! The operations of the events so far, while more may come.
 ghost use Rattle.std.specs.Prelude.{◌≡◌, ◌≤◌, ◌<◌, ◌||◌, true, false, ℕ, List, [], ◌∷◌, ◌++◌, MatchOption, OnErr, OnOk, length};
 ghost use Rattle.event_records.specs.declared.event.Event.{Event};
 ghost use Rattle.event_records.specs.Turns.{is_call};
@@ -16,11 +16,11 @@ use crate::operation::{OpKind, Operation};
 use crate::timeline::Timeline;
 use event_records::{Event, MAX_THREAD, MAX_THREADS, MAX_TICKET, What};
 
-/// The operations of the events so far, in the order of their calls, and what the next event is judged by.
+/// The operations of the events so far, in the order of their calls, with what is needed to judge the next event.
 #[derive(Drop)]
 pub(crate) struct Forming {
     timeline: Timeline,
-    // One above the last ticket: the least that the next event may have.
+    // One above the last ticket: the least ticket that the next event may have.
     least_ticket: u64,
     // The place of each thread's pending call.
     pending: [Option<u32>; MAX_THREADS],
@@ -40,8 +40,8 @@ impl Forming {
         }
     }
 
-    /// What the queue holds first, and the operations. A pending one has the return 0, and counts as a successful
-    /// enqueue or as empty.
+    /// Returns the initial values and the operations. A pending operation has the return 0, and counts as a
+    /// successful enqueue or as an empty dequeue.
     #[inline(always)]
     pub(crate) fn timeline(&self) -> &Timeline
         ensures { result.now ≡ self.now.timeline }
@@ -49,7 +49,7 @@ impl Forming {
         &self.timeline
     }
 
-    /// The events so far.
+    /// Returns the events so far.
     #[tactic(auto, using(crate::proofs::TheirEvents::told_of_run))]
     pub(crate) fn events(&self) -> Events<'_>
         requires { AreOfRun self.now.timeline.operations }
@@ -69,8 +69,8 @@ impl Forming {
         timeline
     }
 
-    /// Adds the event at this place, unless it has a fault; `repeats` says whether it calls with a value that an event
-    /// before it called with, or with an initial value.
+    /// Adds the event at this place, unless it has a fault. `repeats` is whether it calls to enqueue a value that an
+    /// earlier event called to enqueue, or an initial value.
     #[inline(always)]
     pub(crate) fn take(
         &mut self,
@@ -96,7 +96,7 @@ impl Forming {
         }
     }
 
-    /// Whether the ticket is out of range, or not above the last one.
+    /// Returns whether the ticket is out of range, or not above the last one.
     #[inline(always)]
     fn breaks_order(&self, ticket: u64) -> bool
         ensures order { (events : List Event) (e : Event) → HasFormed events self.now → e.ticket ≡ ticket → result ≡ breaks_ticket_order events e }
@@ -105,7 +105,7 @@ impl Forming {
         ticket > MAX_TICKET || ticket < self.least_ticket
     }
 
-    /// Does so for a call that comes in order.
+    /// Adds a call whose ticket is above the last one.
     #[inline(always)]
     fn call(&mut self, event: Event, place: usize, repeats: bool) -> Result<(), HistoryFault>
         requires thread { event.thread ≤ MAX_THREAD }
@@ -123,7 +123,7 @@ impl Forming {
             return Err(HistoryFault::DuplicateValue(place));
         }
         let added = self.timeline.len();
-        // More operations than a place can name have no memory.
+        // Memory has no room for more operations than a place can name.
         if added > u32::MAX as usize {
             return Err(HistoryFault::Memory);
         }
@@ -133,7 +133,7 @@ impl Forming {
         Ok(())
     }
 
-    /// Does so for a return that comes in order: it completes the operation of its thread's pending call.
+    /// Adds a return whose ticket is above the last one. It completes the operation of its thread's pending call.
     #[tactic(auto, using(crate::proofs::Formed::wrong_return, std::proofs::lemmas::Option::slice_get_within))]
     #[inline(always)]
     fn answer(&mut self, event: Event, place: usize) -> Result<(), HistoryFault>

@@ -1,4 +1,4 @@
-//! What a history builder gathers: operations, and what the next event is judged by.
+//! The state of a history builder: operations, and what is needed to judge the next event.
 ghost use Rattle.std.specs.Prelude.{◌≡◌, ◌||◌, ◌<◌, ◌≤◌, false, ℕ, List, [], Some, ◌∷◌, ◌++◌};
 ghost use Rattle.std.specs.Prelude.{IfOk, IfSome, IsErr, IsSome, MatchResult, length, vec_len};
 ghost use Rattle.event_records.specs.declared.event.Event.{Event};
@@ -18,7 +18,8 @@ use crate::timeline::Timeline;
 use event_records::{Event, MAX_EVENTS};
 use std::alloc::Global;
 
-/// The initial values and the operations of the events so far, or the first fault and what contradicts what there.
+/// The initial values and the operations of the events so far, or the first fault with the events or values that
+/// contradict each other there.
 #[derive(Drop)]
 pub(crate) struct Gathering {
     called: CalledValues,
@@ -52,7 +53,7 @@ impl Gathering {
         }
     }
 
-    /// Adds an event. It keeps a fault, also out of memory or of room.
+    /// Adds an event. A fault, also out of memory or of room, is kept.
     #[inline(always)]
     pub(crate) fn add(&mut self, event: Event)
         requires { (initial : List ℕ) × (events : List Event) × HasGathered initial events self.old }
@@ -69,13 +70,13 @@ impl Gathering {
             return;
         }
         if let Err(fault) = self.follow(event) {
-            // A copy, so that the event itself needn't lie in memory.
+            // Copied, so that `event` stays in registers.
             let refused = event;
             self.keep(fault, refused);
         }
     }
 
-    /// Judges an event after events without a fault, and adds it if it has none.
+    /// Judges an event that comes after events without a fault, and adds it if it has none.
     #[inline(always)]
     fn follow(&mut self, event: Event) -> Result<(), HistoryFault>
         ensures followed { (initial : List ℕ) (events : List Event) → IsForming initial events self.old → length events < MAX_EVENTS
@@ -89,7 +90,7 @@ impl Gathering {
         Ok(())
     }
 
-    /// Keeps the fault of an event, and what it contradicts. Time O(n).
+    /// Keeps the fault of an event, and the earlier event or value that it contradicts. Takes O(n) time.
     #[inline(never)]
     fn keep(&mut self, fault: HistoryFault, event: Event)
         requires { AreOfRun self.old.forming.timeline.operations }
@@ -110,7 +111,7 @@ impl Gathering {
         self.fault = Some(fault);
     }
 
-    /// Returns what contradicts what at the first fault. Time O(n) if there is one.
+    /// Returns the events or values that contradict each other at the first fault. Takes O(n) time if there is one.
     pub(crate) fn clash(&self) -> Option<Clash>
         requires { (initial : List ℕ) × (events : List Event) × HasGathered initial events self.now }
         ensures clash { (initial : List ℕ) (events : List Event) → HasGathered initial events self.now → IfSome result (IsClash initial events) }

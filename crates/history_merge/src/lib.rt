@@ -1,4 +1,4 @@
-//! Recorded events put in one order, and the complete history that they make.
+//! Recorded events merged by ticket, and the complete history that they are.
 #![tactic(auto)]
 
 mod build;

@@ -14,14 +14,14 @@ pub(crate) fn no_events() -> [Option<Event>; MAX_THREADS]
     [None; MAX_THREADS]
 }
 
-/// Whether this is a call.
+/// Returns whether this is a call.
 pub(crate) fn is_call(what: What) -> bool
     ensures { result ≡ is_call what }
 {
     matches!(what, What::CallEnq(_) | What::CallDeq)
 }
 
-/// Returns what an operation with this call and this return did, if the second is a return of the first's kind.
+/// Returns the kind of the operation with this call and this return, if the return is of the call's kind.
 pub(crate) fn kind_of(call: What, answer: What) -> Option<OpKind>
     ensures { result ≡ kind_of call answer }
 {

@@ -4,9 +4,10 @@ ghost use Rattle.history_merge.specs.Merge.{IsMerged};
 use event_records::{Event, Lists};
 use std::alloc::{AllocError, Global};
 
-/// Merges the lists by ticket. Events of equal tickets keep the order of their lists, and within one list their own.
+/// Merges the lists by ticket. Events with equal tickets keep the order of their lists, and within one list their
+/// own.
 ///
-/// Time O(n log n) for n events, memory for the answer and a buffer of the sort.
+/// Takes O(n log n) time for n events, and memory for the result and for a buffer of the sort.
 pub fn merge(alloc: Global, lists: &Lists) -> Result<Vec<Event>, AllocError>
     ensures { IfOk result (λ merged. IsMerged lists.now merged.items) }
 {

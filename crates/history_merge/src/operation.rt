@@ -4,16 +4,16 @@ ghost use Rattle.event_records.specs.declared.limits.TheConstants.{MAX_TICKET, O
 use event_records::{Event, MAX_TICKET, ORIGIN, What};
 use std::marker::Model;
 
-/// What an operation did.
+/// The kind of an operation: what was called, and how it returned.
 #[derive(Clone, Copy, Debug, PartialEq, Eq)]
 pub enum OpKind {
-    /// An enqueue of this value, which succeeded.
+    /// A successful enqueue of this value.
     Enq(u64),
-    /// A dequeue that gave this value.
+    /// A dequeue of this value.
     Deq(u64),
     /// A dequeue that found the queue empty.
     Empty,
-    /// An enqueue of this value, which failed: the queue was full or out of memory.
+    /// A failed enqueue of this value: the queue was full or out of memory.
     Not(u64),
 }
 
@@ -21,7 +21,7 @@ impl OpKind {
     ghost use Rattle.history_merge.specs.Events.{answered_by, called_by};
     ghost use Rattle.history_merge.specs.Operations.{enqueued_value};
 
-    /// Returns the value that the operation called to enqueue, whether taken or not.
+    /// Returns the value that the operation called to enqueue, successfully or not.
     #[inline(always)]
     pub fn enqueued_value(self) -> Option<u64>
         ensures { result ≡ enqueued_value self }
@@ -32,7 +32,7 @@ impl OpKind {
         }
     }
 
-    /// Returns what was called.
+    /// Returns the call of an operation of this kind.
     #[inline(always)]
     pub fn called(self) -> What
         ensures { result ≡ called_by self }
@@ -43,7 +43,7 @@ impl OpKind {
         }
     }
 
-    /// Returns what was answered.
+    /// Returns the return of an operation of this kind.
     #[inline(always)]
     pub fn answered(self) -> What
         ensures { result ≡ answered_by self }
@@ -59,7 +59,7 @@ impl OpKind {
 
 /// A call with its return (Herlihy and Wing 1990, section 2.1).
 ///
-/// Plain data: only in the operations of a history is `call` known to be below `ret`.
+/// This is plain data: `call` is known to be below `ret` only for the operations of a history.
 #[derive(Clone, Copy, Debug, PartialEq, Eq)]
 pub struct Operation {
     /// The ticket of the call.
@@ -68,7 +68,7 @@ pub struct Operation {
     pub ret: u64,
     /// The number of the thread.
     pub thread: u8,
-    /// What was called and answered.
+    /// What was called, and how it returned.
     pub kind: OpKind,
 }
 
@@ -76,7 +76,7 @@ impl Operation {
     ghost use Rattle.history_merge.specs.Events.{call_event, return_event};
     ghost use Rattle.history_merge.specs.Initial.{later_by};
 
-    /// Returns the operation at the times of its tickets, which are [`ORIGIN`] later than these.
+    /// Returns the operation at the times of its tickets, which are [`ORIGIN`] greater.
     #[inline(always)]
     pub fn timed(self) -> Operation
         requires call { self.call ≤ MAX_TICKET }
@@ -132,7 +132,7 @@ impl Model for OpId {
 }
 
 impl OpId {
-    /// Names the operation at this place.
+    /// Makes the name of the operation at this place.
     #[inline(always)]
     pub fn new(place: u32) -> OpId
         ensures { result ≡ place }
@@ -148,7 +148,7 @@ impl OpId {
         self.place as usize
     }
 
-    /// Returns the place in half a word.
+    /// Returns the place as the half word that it is kept in.
     #[inline(always)]
     pub fn number(self) -> u32
         ensures { result ≡ self }

@@ -9,10 +9,10 @@ use event_records::ORIGIN;
 use std::iter::{ExactSizeIterator, FusedIterator};
 use std::marker::Model;
 
-/// An iterator over operations of a history by their tickets, in the order of their calls; seen as the list of those that
-/// are left.
+/// An iterator over the operations of a history by their tickets, in the order of their calls; seen as the list of
+/// those that are left.
 ///
-/// It borrows them from a history, which has each at the times of its tickets.
+/// Borrows them from a history, which keeps each at the times of its tickets.
 #[derive(Debug, Drop)]
 pub struct Operations<'a> {
     later: &'a [PackedOperation],
@@ -40,7 +40,7 @@ impl<'a> Operations<'a> {
         Operations { later }
     }
 
-    /// Returns those that are left once more.
+    /// Returns an iterator over the operations that are left.
     #[inline(always)]
     pub fn iter(&self) -> Operations<'a>
         ensures { result ≡ self.now }
@@ -48,7 +48,7 @@ impl<'a> Operations<'a> {
         Operations::new(self.later)
     }
 
-    /// How many there are; memory has no room for more than 2^62.
+    /// Returns the number of operations. Memory has no room for more than 2^62.
     #[inline(always)]
     pub fn len(&self) -> usize
         ensures exact { result ≡ length self.now }
@@ -96,7 +96,7 @@ impl<'a> ExactSizeIterator for Operations<'a> {
 
 impl<'a> FusedIterator for Operations<'a> {}
 
-/// The operation by its tickets.
+/// Returns the operation by its tickets, from that by times.
 #[inline(always)]
 pub(crate) fn earlier(operation: Operation) -> Operation
     requires { (ORIGIN ≤ operation.call) × (ORIGIN ≤ operation.ret) }

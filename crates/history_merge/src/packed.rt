@@ -8,13 +8,13 @@ use crate::operation::{OpKind, Operation};
 use std::fmt::{Debug, Error, Formatter, Write};
 use std::marker::Model;
 
-/// One above the greatest ticket or clock that is packed.
+/// One above the greatest ticket or time that fits into a packed operation: both have 40 bits there.
 pub const PACKED_LIMIT: u64 = 1 << 40;
 
-/// How many numbers differ in their lower halves alone.
+/// The number of values of a lower half.
 const LOWER: u64 = 1 << 32;
 
-/// What was called and answered, without the value.
+/// The kind of an operation without its value.
 #[derive(Clone, Copy)]
 pub(crate) enum Tag {
     Enq,
@@ -99,8 +99,8 @@ impl PackedOperation {
         }
     }
 
-    /// Returns the value if the operation called to enqueue one, without a look at whether it did. Otherwise the number means
-    /// nothing.
+    /// Returns the value if the operation called to enqueue one, without looking whether it did. Otherwise the number
+    /// means nothing.
     #[inline(always)]
     pub fn value(&self) -> u64
         ensures called { (v : ℕ) → enqueued_value self.now.kind ≡ Some v → result ≡ v }
@@ -108,7 +108,7 @@ impl PackedOperation {
         joined(self.upper_value, self.value)
     }
 
-    /// Returns the operation.
+    /// Unpacks the operation.
     #[inline(always)]
     pub fn unpack(self) -> Operation
         ensures operation { result ≡ self }
@@ -136,7 +136,7 @@ impl Debug for PackedOperation {
     }
 }
 
-/// The number of two halves.
+/// Joins two halves to a number.
 #[inline(always)]
 fn joined(upper: u32, lower: u32) -> u64
     ensures { result ≡ joined upper lower }
@@ -156,7 +156,7 @@ fn tag_of(kind: OpKind) -> Tag
     }
 }
 
-/// The value of what was called and answered, or 0.
+/// Returns the value of this kind, or 0 if it has none.
 #[inline(always)]
 fn value_of(kind: OpKind) -> u64
     ensures { result ≡ value_of kind }

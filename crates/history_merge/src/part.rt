@@ -8,11 +8,11 @@ use crate::operation::OpId;
 use crate::timeline::Timeline;
 use std::alloc::{AllocError, Global};
 
-/// Makes the history of these initial values and of the operations at these places of a history. The caller knows that it is a
-/// complete one: that of some values with all their operations, for example.
+/// Makes the history of these initial values and of the operations at these places of another history. The caller
+/// knows that it is complete, as for some values with all their operations.
 ///
-/// It judges and sorts nothing. Time and memory in proportion to the values and places. `AllocError` comes only where a growth
-/// was refused.
+/// Nothing is judged or sorted. Takes time and memory in proportion to the values and places. The only error is out
+/// of memory.
 pub fn part_at(
     alloc: Global,
     history: &History,

@@ -10,10 +10,10 @@ use crate::merging::merge;
 use event_records::{Event, Lists, MAX_EVENTS};
 use std::alloc::{AllocError, Global};
 
-/// Makes the history of lists that merge to a complete one, as those of a recorded run do, of a queue that holds these
-/// values at first, its front first.
+/// Makes the history of lists that merge to a complete one, as those of a recorded run do, of a queue that holds the
+/// initial values at first, front first.
 ///
-/// No other fault than out of memory can come. Time O(n log n) for n events, memory for them and for the history.
+/// Takes O(n log n) time for n events, and memory for them and for the history. The only error is out of memory.
 pub fn merged_from(alloc: Global, initial: &[u64], lists: &Lists) -> Result<History, AllocError>
     requires complete { (merged : List Event) → IsMerged lists.now merged → IsCompleteFrom initial.now merged }
     requires few { length (flat_map (λ list. list) lists.now) ≤ MAX_EVENTS }
@@ -24,6 +24,6 @@ pub fn merged_from(alloc: Global, initial: &[u64], lists: &Lists) -> Result<Hist
 {
     let events = merge(alloc, lists)?;
     let initial = Vec::from_slice(alloc, initial)?;
-    // A complete history has no other fault than out of memory.
+    // Memory is the only reason why a complete history is rejected.
     history_from(alloc, initial, events.as_slice()).map_err(|_| AllocError)
 }

@@ -1,4 +1,4 @@
-//! The operations of a history on one scale of time.
+//! The operations of a history on the scale of times.
 ghost use Rattle.std.specs.Prelude.{◌≡◌, ◌≤◌, ◌+◌, ◌-◌, ◌<◌, ◌++◌, ◌∷◌, [], IfOk, OnErr, OnOk, Some, length, map, slice_get, slice_set, vec_len};
 ghost use Rattle.event_records.specs.declared.limits.TheConstants.{MAX_INITIAL, MAX_TICKET, ORIGIN};
 ghost use Rattle.history_merge.specs.declared.operation.Operation.{Operation};
@@ -12,10 +12,10 @@ use event_records::{MAX_INITIAL, MAX_TICKET, ORIGIN};
 use std::alloc::{AllocError, Global};
 use std::marker::Model;
 
-/// What a queue holds first, and operations, which come and change by their tickets.
+/// The initial values of a queue and the operations on it, which are added and changed by their tickets.
 ///
-/// The initial values are enqueued first, one after another, so that the last comes just before the time of ticket 0.
-/// Then the operations follow, each at the times of its tickets.
+/// The enqueues of the initial values come first, one time after another, the last just before the time of ticket 0.
+/// Then come the operations, each at the times of its tickets.
 #[derive(Debug, Drop)]
 pub(crate) struct Timeline {
     initial: Vec<u64>,
@@ -43,7 +43,7 @@ impl Timeline {
         Timeline::with_capacity(alloc, initial, 0)
     }
 
-    /// Begins with the enqueues of these values, and room for operations.
+    /// Begins with the enqueues of these values, and with room for operations.
     pub(crate) fn with_capacity(
         alloc: Global,
         initial: Vec<u64>,
@@ -60,7 +60,7 @@ impl Timeline {
         Ok(Timeline { initial, all })
     }
 
-    /// No values and no operations.
+    /// Returns a timeline of no values and no operations.
     pub(crate) fn none(alloc: Global) -> Timeline
         ensures initial { result.initial ≡ [] }
         ensures operations { result.operations ≡ [] }
@@ -71,7 +71,7 @@ impl Timeline {
         }
     }
 
-    /// The values that the queue holds first.
+    /// Returns the initial values.
     pub(crate) fn initial(&self) -> &[u64]
         ensures initial { result.now ≡ self.now.initial }
         ensures few { length self.now.initial ≤ MAX_INITIAL }
@@ -79,7 +79,7 @@ impl Timeline {
         self.initial.as_slice()
     }
 
-    /// The enqueues of the initial values, and then the operations at the times of their tickets.
+    /// Returns the enqueues of the initial values, and then the operations at the times of their tickets.
     pub(crate) fn all(&self) -> &[PackedOperation]
         ensures timeline { result.now ≡ timeline self.now.initial self.now.operations }
         ensures few { length self.now.initial ≤ MAX_INITIAL }
@@ -87,7 +87,7 @@ impl Timeline {
         self.all.as_slice()
     }
 
-    /// The operations, by their tickets.
+    /// Returns the operations by their tickets.
     #[tactic(auto, using(crate::proofs::Timelines::all_late, crate::proofs::Timelines::all_back))]
     pub(crate) fn operations(&self) -> Operations<'_>
         ensures { result ≡ self.now.operations }
@@ -95,7 +95,7 @@ impl Timeline {
         Operations::new(self.behind())
     }
 
-    /// How many operations there are.
+    /// Returns the number of operations.
     #[inline(always)]
     pub(crate) fn len(&self) -> usize
         ensures { result ≡ length self.now.operations }
@@ -103,7 +103,7 @@ impl Timeline {
         self.behind().len()
     }
 
-    /// The operations, at the times of their tickets.
+    /// Returns the operations at the times of their tickets.
     #[tactic(auto, using(crate::proofs::Timelines::length_timeline, crate::proofs::Timelines::behind_enqueues))]
     #[inline(always)]
     fn behind(&self) -> &[PackedOperation]
@@ -113,7 +113,7 @@ impl Timeline {
         operations
     }
 
-    /// The operation at this place.
+    /// Returns the operation at this place.
     #[tactic(auto, using(crate::proofs::Timelines::later_at, crate::proofs::Timelines::there_and_back))]
     #[inline(always)]
     pub(crate) fn get(&self, place: usize) -> Option<Operation>
@@ -123,7 +123,7 @@ impl Timeline {
         Some(earlier(later))
     }
 
-    /// Gives the operation at this place its return and what it did.
+    /// Completes the operation at this place with its return and its kind.
     #[inline(always)]
     pub(crate) fn complete(&mut self, place: usize, ret: u64, kind: OpKind)
         requires place { place < length self.old.operations }
@@ -155,7 +155,7 @@ impl Timeline {
     }
 }
 
-/// Adds an operation. Only where the list has to grow is this more than a store.
+/// Adds an operation. This is no more than a store, unless the list has to grow.
 #[inline(always)]
 fn push(operations: &mut Vec<PackedOperation>, operation: PackedOperation) -> Result<(), AllocError>
     ensures added { OnOk result (operations.new.items ≡ operations.old.items ++ operation ∷ []) }
@@ -168,7 +168,7 @@ fn push(operations: &mut Vec<PackedOperation>, operation: PackedOperation) -> Re
     Ok(())
 }
 
-/// Returns the operation at the place, if there is one.
+/// Returns the operation at `place`, if there is one.
 #[inline(always)]
 fn operation_at(operations: &[PackedOperation], place: usize) -> Option<Operation>
     ensures { result ≡ slice_get operations.now place }
@@ -179,7 +179,7 @@ fn operation_at(operations: &[PackedOperation], place: usize) -> Option<Operatio
     }
 }
 
-/// An enqueue of the value that is called and returns at this time.
+/// Returns an enqueue of the value that is called and returns at this time.
 fn enqueue_at(time: u64, value: u64) -> PackedOperation
     requires { time ≤ ORIGIN }
     ensures { result ≡ enqueue_at time value }

@@ -1,4 +1,4 @@
--- Numbers counted in blocks: which block a number is in, what a new number adds, and how many lie below another one.
+-- Numbers counted in blocks: the block of a number, the effect of a new number, and how many are below a given one.
 use Rattle.std.proofs.Common.{◌≡◌, ℕ, zero, suc, ◌+◌, ◌-◌, ◌<◌, ◌≤◌, ◌++◌, List, [], ◌∷◌, length, get_or, cond, refl, sym, ◌∙◌, ap, Bool, true, false}
 use Rattle.std.proofs.Common.{inl, inr, arith, ◌⊎◌, ◌≢◌}
 use Rattle.std.proofs.Math.ListN.{set, length-set, get_or-eq_default}
@@ -15,7 +15,7 @@ pub halved_rises : (x y k : ℕ) → x ≤ y → halved x k ≤ halved y k
 halved_rises x y zero le = le
 halved_rises x y (suc k) le = let more = halved_rises x y k le in omega (arith, more)
 
--- no block is greater than the number
+-- no block is greater than the number in it
 pub halved_less : (x k : ℕ) → halved x k ≤ x
 halved_less x zero = omega arith
 halved_less x (suc k) = let more = halved_less x k in omega (arith, more)
@@ -24,13 +24,13 @@ halved_less x (suc k) = let more = halved_less x k in omega (arith, more)
 pub halved_more : (x k : ℕ) → halved x (k + 1) ≡ halved x k / 2
 halved_more x k = let next : k + 1 ≡ suc k = omega arith in ap (halved x) next
 
--- ---- what lies below a block
+-- ---- numbers below a block
 
--- below an odd block lie the block before it, and what lies below its half
+-- below an odd block are the block before it, and those below its half
 below_odd : (a b : ℕ) → b % 2 ≡ 1 → cond (nat_lt a b) 1 0 ≡ cond (nat_eq a (b - 1)) 1 0 + cond (nat_lt (a / 2) (b / 2)) 1 0
 below_odd a b odd = grind (arith, nat_tests)
 
--- below an even block lies what lies below its half
+-- below an even block are those below its half
 below_even : (a b : ℕ) → b % 2 ≡ 0 → ◌≡◌ {A = ℕ} (cond (nat_lt a b) 1 0) (cond (nat_lt (a / 2) (b / 2)) 1 0)
 below_even a b even = grind (arith, nat_tests)
 
@@ -57,7 +57,7 @@ count_even k b (x ∷ xs) even = omega (
   count_even k b xs even,
 )
 
--- below 0 lies nothing
+-- no number is below block 0
 pub count_none_below : (k : ℕ) (numbers : List ℕ) → count_by (λ x. nat_lt (halved x k) 0) numbers ≡ 0
 count_none_below k [] = refl
 count_none_below k (x ∷ xs) = sum_by-cons (λ x. cond (nat_lt (halved x k) 0) 1 0) x xs ∙ (λ i. cond (le-ltb (halved x k) 0 (omega arith) i) 1 0 + count_none_below k xs i)
@@ -67,9 +67,9 @@ next_level : (level block next : ℕ) (numbers : List ℕ) → next ≡ block / 
     → count_by (λ x. nat_lt (halved x (level + 1)) next) numbers ≡ count_by (λ x. nat_lt (halved x level / 2) (block / 2)) numbers
 next_level level block next numbers halves = λ i. count_by (λ x. nat_lt (halved_more x level i) (halves i)) numbers
 
--- ---- one number more
+-- ---- one more number
 
--- in the levels below this one the number was added to its block, and the others are as before
+-- in the levels below this one the number was added to its block, and the others are unchanged
 pub record AddedBelow (number level block : ℕ) (before now : List (List ℕ)) : Type 0 where
   pub same : length now ≡ length before
   pub here : block ≡ halved number level
@@ -83,13 +83,13 @@ pub block_within : (number level : ℕ) (levels : List (List ℕ)) → HasRoomFo
 block_within number level levels room within =
     omega (arith, room.is_tally.has_levels.wide level within, halved_rises number room.limit level room.within)
 
--- and each block has a count that fits
+-- each block has a count that fits
 pub count_fits : (number level block : ℕ) (levels : List (List ℕ)) → HasRoomFor number levels → level < length levels
     → get_or (get_or levels level []) block 0 < 4611686018427387904
 count_fits number level block levels room within =
     omega (arith, room.is_tally.counts level block within, count_by-le-length (λ x. nat_eq (halved x level) block) room.numbers, room.few)
 
--- it is so of one level more
+-- one more level has it added
 pub added_more : (number level block next : ℕ) (before now new : List (List ℕ)) → level < length now → block < length (get_or now level [])
     → AddedBelow number level block before now → new ≡ set now level (set (get_or now level []) block (get_or (get_or now level []) block 0 + 1))
     → next ≡ block / 2 → AddedBelow number (level + 1) next before new
@@ -132,7 +132,7 @@ added_more number level block next before now new within fits was is halves = re
       | inr other ↦ ap (λ l. get_or l j 0) other.1 ∙ was.done k j (omega (arith, other.0))
     ]
 
--- all levels have it
+-- all levels have it added
 pub added_all : (limit number level block : ℕ) (numbers : List ℕ) (before now : List (List ℕ)) → length now ≤ level → AddedBelow number level block before now
     → IsTally limit numbers before → IsTally limit (numbers ++ number ∷ []) now
 added_all limit number level block numbers before now all added is = record {
@@ -141,15 +141,15 @@ added_all limit number level block numbers before now all added is = record {
       ∙ sym (sum_by_push (λ x. cond (nat_eq (halved x k) j) 1 0) numbers number);
 }
 
--- ---- how many lie below a number
+-- ---- the number of numbers below a given one
 
--- in the levels below this one what is below the block was counted, and the rest is in blocks below this one
+-- in the levels below this one the numbers below the block were counted, and the rest are in blocks below this one
 pub record CountedBelow (number level block below : ℕ) (levels : List (List ℕ)) : Type 0 where
   pub here : block ≡ halved number level
   pub counted : (limit : ℕ) (numbers : List ℕ) → IsTally limit numbers levels
       → below + count_by (λ x. nat_lt (halved x level) block) numbers ≡ count_by (λ x. nat_lt x number) numbers
 
--- with the block before an odd one no more than all are counted
+-- with the block before an odd one, at most all numbers are counted
 pub count_in_all : (number level block below : ℕ) (levels : List (List ℕ)) → HasRoomFor number levels → level < length levels → block % 2 ≡ 1
     → CountedBelow number level block below levels → below + get_or (get_or levels level []) (block - 1) 0 < 4611686018427387904
 count_in_all number level block below levels room within odd was = omega (
@@ -196,22 +196,22 @@ below_all number level block below limit numbers levels all within was tally =
     let none : block ≡ 0 = omega (arith, was.here, halved_rises number limit level within, ap (halved limit) all, tally.has_levels.ends) in
     omega (arith, was.counted limit numbers tally, count_none_below level numbers, ap (λ b. count_by (λ x. nat_lt (halved x level) b) numbers) none)
 
--- ---- no numbers yet
+-- ---- a tally of no numbers
 
--- the levels so far count nothing, and the next one has this last block
+-- the levels so far count nothing, and this is the last block of the next one
 pub record HasEmptyLevels (limit last : ℕ) (levels : List (List ℕ)) : Type 0 where
   pub next : last ≡ halved limit (length levels)
   pub wide : (k : ℕ) → k < length levels → halved limit k < length (get_or levels k [])
   pub empty : (k j : ℕ) → k < length levels → get_or (get_or levels k []) j 0 ≡ 0
 
--- a list of zeros has no other number
+-- a list of zeros has only zeros
 zero_at : (n j : ℕ) → ◌≡◌ {A = ℕ} (get_or (replicate n 0) j 0) 0
 zero_at n j = elim (cases_lt j n) [
   | inl below ↦ get_or-replicate n j 0 0 below
   | inr above ↦ get_or-eq_default (replicate {A = ℕ} n 0) 0 (omega (arith, length-replicate {A = ℕ} n 0))
 ]
 
--- one level more
+-- one more level
 pub empty_more : (limit last next : ℕ) (levels : List (List ℕ)) → next ≡ last / 2 → HasEmptyLevels limit last levels
     → HasEmptyLevels limit next (levels ++ replicate (last + 1) 0 ∷ [])
 empty_more limit last next levels halves was = record {

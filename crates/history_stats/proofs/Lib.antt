@@ -1,6 +1,6 @@
--- AtOnce: counts of tickets that lie in order, the sweep over what comes and goes, and what pends and stays.
--- Threads: threads that have an event. Overlaps: what an operation overlaps, earlier and later in the list.
--- OneStatistics: two statistics of one history are the same.
+-- AtOnce: counts of sorted tickets, the sweep over arrivals and departures, and pending operations and values that
+-- stay. Threads: threads that have an event. Overlaps: the earlier and later operations that an operation overlaps.
+-- OneStatistics: two statistics of one history are equal.
 pub mod AtOnce
 pub mod Threads
 pub mod Overlaps

@@ -1,4 +1,4 @@
--- A history has one statistics.
+-- A history has only one statistics.
 use Rattle.std.proofs.Common.{◌≡◌, ℕ, List, None, Option, Some, ap, arith, refl, sym, ◌∙◌}
 use Rattle.std.specs.Prelude.{MatchOption}
 use Rattle.history_merge.specs.Initial.{HistoryView}
@@ -10,7 +10,7 @@ use Rattle.history_stats.specs.Statistics.{AreStatisticsOf}
 use Rattle.history_stats.specs.declared.statistics.Statistics.{Statistics}
 use Rattle.history_stats.proofs.AtOnce.{one_most}
 
--- numbers have one least of the most during a refusal
+-- numbers have only one minimum of the maximum during a failed enqueue
 one_least : (operations : List Operation) (f : ℕ → ℕ) (a b : ℕ) → IsRefusedAt operations f a → IsRefusedAt operations f b → a ≡ b
 one_least operations f a b x y =
     let under = x.at_each y.refusal y.is_refusal in

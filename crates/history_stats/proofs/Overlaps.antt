@@ -1,4 +1,4 @@
--- What an operation overlaps: of the operations before it and of those after it.
+-- The operations that an operation overlaps, before it and after it.
 use Rattle.std.proofs.Common.{◌≡◌, ℕ, zero, suc, ◌+◌, ◌<◌, max, List, [], ◌∷◌, ◌++◌, length, get_or, cond}
 use Rattle.std.proofs.Common.{Bool, false, refl, sym, ◌∙◌, ap, subst, arith, append_assoc, length-append}
 use Rattle.std.proofs.Math.ListN.{get_or-append}
@@ -16,25 +16,25 @@ use Rattle.history_merge.proofs.Lists.{All-right, pairs_back}
 
 -- ---- the parts of a list
 
--- those after the first
+-- the operations after the first
 behind_first : (x : Operation) (rest : List Operation) → AllPairs (λ a b. a.call < b.call) (x ∷ rest) → All (λ o. x.call < o.call) rest
 behind_first x rest rise = All-from_get_or (λ (o : Operation). x.call < o.call) rest x (λ k below. rise zero (suc k) x (omega arith) (omega arith))
 
 -- ---- one operation and another one
 
--- an operation overlaps an earlier one that returns at its call or later
+-- an operation overlaps an earlier one if and only if that returns at its call or later
 overlaps_earlier : (x o : Operation) → o.call < x.call → x.call < x.ret → overlap x o ≡ nat_le x.call o.ret
 overlaps_earlier x o before forward = grind (arith, nat_tests)
 
--- a later one that is called by its return
+-- an operation overlaps a later one if and only if that is called by its return
 overlaps_later : (x o : Operation) → x.call < o.call → o.call < o.ret → overlap x o ≡ nat_le o.call x.ret
 overlaps_later x o behind forward = grind (arith, nat_tests)
 
--- and not itself
+-- no operation overlaps itself
 not_itself : (x : Operation) → overlap x x ≡ false
 not_itself x = grind (arith, nat_tests)
 
--- tests that agree on all of a list find alike
+-- tests that agree on all elements of a list agree on the list
 any_alike : {X : Type 0} (p q : X → Bool) (xs : List X) → All (λ x. p x ≡ q x) xs → list_any p xs ≡ list_any q xs
 any_alike p q [] same = refl
 any_alike p q (x ∷ xs) same =
@@ -50,7 +50,7 @@ any_earlier earlier later x rise forward = any_alike (overlap x) (λ (o : Operat
 
 -- ---- one of some operations
 
--- if calls rise, one of them comes by a ticket if the first does
+-- if calls rise, one operation comes by a ticket if and only if the first does
 first_decides : (ticket : ℕ) (x : Operation) (rest : List Operation) → All (λ o. x.call < o.call) rest
     → list_any (λ o. nat_le o.call ticket) (x ∷ rest) ≡ nat_le x.call ticket
 first_decides ticket x [] behind = grind (arith, nat_tests)
@@ -62,14 +62,14 @@ first_decides ticket x (y ∷ rest) behind =
     one : (a b t : ℕ) (c : Bool) → a < b → (nat_le a t || c) ≡ nat_le a t → (nat_le a t || (nat_le b t || c)) ≡ nat_le a t
     one a b t c lt e = grind (arith, nat_tests)
 
--- the first of some operations, if there is one, decides whether one is called by a ticket
+-- the first operation, if there is one, decides whether one is called by a ticket
 pub called_by_first : (ticket : ℕ) (operations rest : List Operation) (x : Operation) → operations ≡ x ∷ rest
     → AllPairs (λ a b. a.call < b.call) operations → nat_le x.call ticket ≡ list_any (λ o. nat_le o.call ticket) operations
 called_by_first ticket operations rest x is rise =
     sym (first_decides ticket x rest (behind_first x rest (subst (AllPairs (λ (a b : Operation). a.call < b.call)) is rise)))
     ∙ ap (list_any (λ (o : Operation). nat_le o.call ticket)) (sym is)
 
--- both tests decide whether an operation overlaps another one
+-- both tests together decide whether an operation overlaps another one
 pub overlap_told : (earlier later : List Operation) (x : Operation) (is_earlier is_later : Bool)
     → AllPairs (λ a b. a.call < b.call) (earlier ++ x ∷ later) → All (λ o. o.call < o.ret) (earlier ++ x ∷ later)
     → is_earlier ≡ list_any (λ o. nat_le x.call o.ret) earlier
@@ -86,7 +86,7 @@ overlap_told earlier later x is_earlier is_later rise forward tells_earlier tell
 
 -- ---- one after another
 
--- of all operations some were seen; this many of them overlap another one, and this is their last return
+-- some of the operations were seen; this many of them overlap another one, and this is their last return
 pub record Counted (all left : List Operation) (count last_return : ℕ) : Type 0 where
   pub seen : List Operation
   pub parts : seen ++ left ≡ all
@@ -101,7 +101,7 @@ left_rise all old left x count last_return is rise was =
     pairs_back (λ (a b : Operation). a.call < b.call) (x ∷ []) left (subst (AllPairs (λ (a b : Operation). a.call < b.call)) is
     (pairs_back (λ (a b : Operation). a.call < b.call) was.seen old (subst (AllPairs (λ (a b : Operation). a.call < b.call)) (sym was.parts) rise)))
 
--- one more has a return that may be the last
+-- one more operation has a return that may be the last
 last_more : (seen : List Operation) (x : Operation) (last next : ℕ) → IsLastReturn seen last → (length seen ≡ 0 → last ≡ 0) → next ≡ max last x.ret
     → IsLastReturn (seen ++ x ∷ []) next
 last_more seen x last next is none new = λ ticket.
@@ -113,7 +113,7 @@ last_more seen x last next is none new = λ ticket.
     both ticket zero m first size = let no = first refl in grind (arith, nat_tests)
     both ticket (suc n) m first size = grind (arith, nat_tests)
 
--- one more, which overlaps another one or doesn't, as those before it and those after it show
+-- one more operation, which overlaps another one or doesn't, as those before it and after it show
 pub counted_more : (all old left : List Operation) (x : Operation) (count last next count' : ℕ) (has_earlier told : Bool) → old ≡ x ∷ left
     → AllPairs (λ a b. a.call < b.call) all → All (λ o. o.call < o.ret) all → has_earlier ≡ nat_lt (length left + 1) (length all)
     → ((earlier : List Operation) → AllPairs (λ a b. a.call < b.call) (earlier ++ x ∷ left) → All (λ o. o.call < o.ret) (earlier ++ x ∷ left)

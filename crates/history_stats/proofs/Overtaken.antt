@@ -1,4 +1,4 @@
--- What was found of dequeues in another order is what the definition says, once it is sorted.
+-- The overtakings found in another order are those of the definition, once they are sorted.
 use Rattle.std.proofs.Common.{◌≡◌, ℕ, zero, suc, ◌+◌, ◌-◌, ◌<◌, ◌≤◌, ◌++◌, ◌∷◌, List, [], length, get_or, cond, refl, sym, ◌∙◌, ap, Bool, true, false}
 use Rattle.std.proofs.Common.{All, None, Option, Some, inl, inr, arith, map, nat_lt, subst}
 use Rattle.std.specs.Prelude.{AllPairs, count_by, filter_map, find, nat_eq, option_map, ◌&&◌}
@@ -25,9 +25,9 @@ use Rattle.history_stats.specs.declared.overtaking.Overtaking.{Overtaking}
 use Rattle.history_stats.specs.declared.stays.Stay.{Stay}
 use Rattle.history_stats.specs.declared.takings.Taking.{Taking}
 
--- ---- sums over what is found
+-- ---- sums over what `filter_map` gives
 
--- the sum over what is found is that over all, of which each has what it finds
+-- the sum over what `filter_map` gives is the sum over all elements
 sum_found : {X Y : Type 0} (h : X → Option Y) (g : Y → ℕ) (xs : List X) → sum_by g (filter_map h xs) ≡ sum_by (λ x. option_map_or g (h x) 0) xs
 sum_found h g [] = refl
 sum_found {X} {Y} h g (x ∷ xs) = here (h x) ∙ ap (λ n. option_map_or g (h x) 0 + n) (sum_found h g xs) ∙ sym (sum_by-cons (λ y. option_map_or g (h y) 0) x xs)
@@ -36,7 +36,7 @@ sum_found {X} {Y} h g (x ∷ xs) = here (h x) ∙ ap (λ n. option_map_or g (h x
     here None = omega arith
     here (Some y) = sum_by-cons g y (filter_map h xs)
 
--- ---- two lists in the order of their tickets with the same sums are one
+-- ---- sorted lists with the same sums are equal
 
 abbrev is_same : Overtaking → Overtaking → Bool
 is_same x y = nat_eq x.count y.count && (nat_eq x.ticket y.ticket && nat_eq x.value y.value)
@@ -65,11 +65,11 @@ same_one x y is = λ i. record { count = count i; ticket = ticket i; value = val
 is_itself : (x : Overtaking) → is_same x x ≡ true
 is_itself x = grind (arith, nat_tests)
 
--- how often it stands in the list
+-- the number of times that an overtaking is in the list
 abbrev times : Overtaking → List Overtaking → ℕ
 times x ys = sum_by (λ y. cond (is_same x y) 1 0) ys
 
--- one that stands in a list has a ticket as all there have
+-- an overtaking in a list has a ticket at least that of all there
 stands_above : (n : ℕ) (x : Overtaking) (ys : List Overtaking) → All (λ y. n ≤ y.ticket) ys → 0 < times x ys → n ≤ x.ticket
 stands_above n x [] all some = absurd (omega arith)
 stands_above n x (y ∷ ys) all some = here (is_same x y) refl (stands_above n x ys (All-tail (λ (z : Overtaking). n ≤ z.ticket) y ys all))
@@ -78,7 +78,7 @@ stands_above n x (y ∷ ys) all some = here (is_same x y) refl (stands_above n x
     here true is more = omega (arith, All-head (λ (z : Overtaking). n ≤ z.ticket) y ys all, ap (λ (z : Overtaking). z.ticket) (same_one x y is))
     here false is more = more (omega (arith, some, sum_by-cons (λ z. cond (is_same x z) 1 0) y ys, ap {B = ℕ} (λ b. cond b 1 0) is))
 
--- the first ones of two such lists are one
+-- the first elements of two such lists are equal
 same_first : (x y : Overtaking) (xs ys : List Overtaking) → IsNonDecreasingBy (λ z. z.ticket) (x ∷ xs) → AllPairs (λ z w. z.ticket < w.ticket) (y ∷ ys)
     → ((g : Overtaking → ℕ) → sum_by g (x ∷ xs) ≡ sum_by g (y ∷ ys)) → x ≡ y
 same_first x y xs ys up rise same = here (is_same x y) refl
@@ -119,9 +119,9 @@ one_sorted (x ∷ xs) (y ∷ ys) up rise same =
     (λ g. omega (arith, same g, sum_by-cons g x xs, sum_by-cons g y ys, ap g first)) in
     λ i. first i ∷ rest i
 
--- ---- overtakings come by rising tickets
+-- ---- overtakings have rising tickets
 
--- what is kept of a list with rising keys, where each that is kept keeps its key, has rising keys
+-- a filtered list has rising keys if the list has, and each element keeps its key
 module _ {X Y : Type 0} (h : X → Option Y) (key : X → ℕ) (key' : Y → ℕ) where
   all_kept : (n : ℕ) (xs : List X) → All (λ x. (y : Y) → h x ≡ Some y → key' y ≡ key x) xs → All (λ x. n < key x) xs → All (λ y. n < key' y) (filter_map h xs)
   all_kept n [] keeps above = λ k d below. absurd (omega arith)
@@ -188,7 +188,7 @@ keeps_call all history = All-append (KeepsCall all) (initial_enqueues history.in
     (all_enqueued (KeepsCall all) (λ time v found is. absurd (cc)) (ORIGIN - length history.initial) history.initial)
     (all_later (KeepsCall all) (λ o. keeps_later all o o.kind) (operations_of history.events))
 
--- so overtakings come by rising tickets
+-- so overtakings have rising tickets
 overtakings_rise : (history : HistoryView) → AllPairs (λ x y. x.call < y.call) (all_operations history)
     → AllPairs (λ x y. x.ticket < y.ticket) (filter_map (λ o. overtaking_by (all_operations history) o o.kind) (all_operations history))
 overtakings_rise history rise =
@@ -196,9 +196,9 @@ overtakings_rise history rise =
     let more = kept_rises (λ (o : Operation). overtaking_by all o o.kind) (λ o. o.call) (λ x. x.ticket + ORIGIN) all (keeps_call all history) rise in
     λ i j d before within. omega (arith, more i j d before within)
 
--- ---- what is found
+-- ---- overtakings that are found
 
--- what the stays say of a dequeue is what the definition says
+-- the stays give the overtaking of a dequeue as the definition does
 found_alike : (operations : List Operation) (calls : List ℕ) (stays : List Stay) → CountStays operations calls stays → (g : Overtaking → ℕ) (o : Operation) (kind : OpKind)
     → option_map_or (λ t. option_map_or g (overtaking_among calls stays t) 0) (taking_by operations o kind) 0 ≡ option_map_or g (overtaking_by operations o kind) 0
 found_alike operations calls stays counted g o (Deq v) = here (find (λ x. put v x.kind) operations)
@@ -213,7 +213,7 @@ found_alike operations calls stays counted g o Empty = refl
 found_alike operations calls stays counted g o (Enq v) = refl
 found_alike operations calls stays counted g o (Not v) = refl
 
--- what is found and sorted is what the definition says
+-- the overtakings found and sorted are those of the definition
 pub found_sorted : (history : HistoryView) (calls : List ℕ) (stays : List Stay) (takings : List Taking) (found sorted : List Overtaking)
     → AllPairs (λ x y. x.call < y.call) (all_operations history) → CountStays (all_operations history) calls stays
     → IsPermutation (takings_in (all_operations history)) takings → found ≡ filter_map (overtaking_among calls stays) takings
@@ -244,7 +244,7 @@ all_mapped : {X : Type 0} (P : ℕ → Type 0) (f : X → ℕ) (xs : List X) →
 all_mapped P f [] all = λ k d below. absurd (omega arith)
 all_mapped P f (x ∷ xs) all = All-cons P (f x) (map f xs) (All-head (λ y. P (f y)) x xs all) (all_mapped P f xs (All-tail (λ y. P (f y)) x xs all))
 
--- the calls of operations by call lie in order
+-- the calls of operations in the order of their calls are sorted
 pub calls_in_order : (operations : List Operation) → AllPairs (λ x y. x.call < y.call) operations → IsNonDecreasing (map (λ o. o.call) operations)
 calls_in_order [] rise = λ i j d le within. absurd (omega arith)
 calls_in_order (o ∷ rest) rise = above_first o.call (map (λ x. x.call) rest)
@@ -255,7 +255,7 @@ calls_in_order (o ∷ rest) rise = above_first o.call (map (λ x. x.call) rest)
 pub complete_rise : (operations : List Operation) → AreComplete operations → AllPairs (λ x y. x.call < y.call) operations
 complete_rise operations complete = λ i j d before within. (complete.apart i j d before within).called_first
 
--- the same of the history that the operations are of
+-- the overtakings found are those of the history of these operations
 pub found_in_history : (history : HistoryView) (operations : List Operation) (calls : List ℕ) (stays : List Stay) (takings : List Taking)
     (found sorted : List Overtaking) → operations ≡ all_operations history → AreComplete operations → CountStays operations calls stays
     → IsPermutation (takings_in operations) takings → found ≡ filter_map (overtaking_among calls stays) takings

@@ -1,4 +1,4 @@
--- How many there may be during refusals: just after the call, and just after each arrival before the return.
+-- The number of values during failed enqueues: just after the call, and just after each arrival before the return.
 use Rattle.std.proofs.Common.{◌≡◌, ℕ, zero, suc, ◌+◌, ◌-◌, ◌<◌, ◌≤◌, ◌++◌, ◌∷◌, List, [], length, get_or, cond, refl, sym, ◌∙◌, ap, Bool, true, false}
 use Rattle.std.proofs.Common.{All, None, Option, Some, inl, inr, arith, nat_lt, not, subst, take, ◌⊎◌}
 use Rattle.std.specs.Prelude.{Contains, MatchOption, count_by, filter_map, nat_eq, nat_le, ◌&&◌, ◌||◌}
@@ -21,7 +21,7 @@ use Rattle.history_stats.proofs.AtOnce.{at_least, below_at, count_few, count_ris
 
 -- ---- heights above a number
 
--- of more heights no fewer are above
+-- among more heights at least as many are above
 more_above : (most i j : ℕ) (hs : List ℕ) → i ≤ j → count_by (λ h. nat_lt most h) (take i hs) ≤ count_by (λ h. nat_lt most h) (take j hs)
 more_above most zero j hs le = omega arith
 more_above most (suc i) zero hs le = absurd (omega arith)
@@ -75,10 +75,10 @@ some_between most (suc i) (suc j) (h ∷ hs) more =
     (omega (arith, more, sum_by-cons (λ x. cond (nat_lt most x) 1 0) h (take i hs), sum_by-cons (λ x. cond (nat_lt most x) 1 0) h (take j hs))) in
     record { place = suc is.place; from = omega (arith, is.from); to = omega (arith, is.to); within = omega (arith, is.within); above = is.above }
 
--- ---- windows
+-- ---- windows of operations
 
 module _ (first : ℕ) (arrivals departures heights : List ℕ) (up : IsNonDecreasing arrivals) (are : AreHeights first arrivals departures heights) where
-  -- if the window stays within a number, there are never more during the operation
+  -- if the window never exceeds a number, there are never more during the operation
   window_stays : (o : Operation) (most gap : ℕ) → (there_at first arrivals departures (o.call + 1) ≤ most)
       → count_above most (take (count_before (o.call + 1) arrivals) heights) ≡ count_above most (take (count_before o.ret arrivals) heights)
       → IsDuring o gap → there_at first arrivals departures gap ≤ most
@@ -95,7 +95,7 @@ module _ (first : ℕ) (arrivals departures heights : List ℕ) (up : IsNonDecre
         omega arith
   ]
 
-  -- if it doesn't, there are more at some gap
+  -- if the window exceeds it, there are more at some gap
   window_exceeds : (o : Operation) (most : ℕ) → o.call < o.ret
       → (most < there_at first arrivals departures (o.call + 1)) ⊎ (count_above most (take (count_before (o.call + 1) arrivals) heights)
       < count_above most (take (count_before o.ret arrivals) heights))
@@ -113,7 +113,7 @@ module _ (first : ℕ) (arrivals departures heights : List ℕ) (up : IsNonDecre
       let came = at_least (get_or arrivals k 0 + 1) arrivals k up within (omega arith) in
       (get_or arrivals k 0 + 1, (omega arith, omega arith), omega (arith, is.above, are.each k within, came))
 
-  -- the test of a window, both ways
+  -- the test of a window decides
   stays_so : (o : Operation) (most : ℕ) → stays_within heights most (window_of first arrivals departures o) ≡ true → (gap : ℕ) → IsDuring o gap
       → there_at first arrivals departures gap ≤ most
   stays_so o most is gap during =
@@ -153,7 +153,7 @@ module _ (first : ℕ) (arrivals departures heights : List ℕ) (up : IsNonDecre
 
 -- ---- counts for each place
 
--- one place more
+-- one more place
 pub counts_more : (most place n : ℕ) (heights above new : List ℕ) → place < length heights → length above ≡ length heights + 1
     → n ≡ get_or above place 0 + cond (nat_lt most (get_or heights place 0)) 1 0 → new ≡ set above (place + 1) n
     → ((k : ℕ) → k ≤ place → get_or above k 0 ≡ count_above most (take k heights))
@@ -171,13 +171,13 @@ counts_more most place n heights above new within room is pushed so_far k le = e
   | inr other ↦ ap (λ l. get_or l k 0) pushed ∙ get_or-set_other above (place + 1) k n 0 other ∙ so_far k (omega (arith, other))
 ]
 
--- ---- windows of refusals
+-- ---- windows of failed enqueues
 
 module _ (first : ℕ) (arrivals departures : List ℕ) where
   abbrev found_of : Operation → Option Window
   found_of o = cond (is_refused o.kind) (Some (window_of first arrivals departures o)) None
 
-  -- if some window passes a test, it is that of a refusal
+  -- if some window passes a test, it is that of a failed enqueue
   some_refusal : (p : Window → Bool) (operations : List Operation) → list_any p (windows_of first arrivals departures operations) ≡ true
       → (o : Operation) × IsRefusal operations o × (p (window_of first arrivals departures o) ≡ true)
   some_refusal p [] is = absurd (cc)
@@ -199,7 +199,7 @@ module _ (first : ℕ) (arrivals departures : List ℕ) where
           passes true it any = (o, ((0, omega arith, refl), so), it)
           passes false it any = later (more any)
 
-  -- if no window passes a test, that of no refusal does
+  -- if no window passes a test, that of no failed enqueue does
   no_refusal : (p : Window → Bool) (operations : List Operation) → list_any p (windows_of first arrivals departures operations) ≡ false
       → (o : Operation) → IsRefusal operations o → p (window_of first arrivals departures o) ≡ false
   no_refusal p [] is o refusal = absurd (omega (arith, refusal.0.1))
@@ -235,7 +235,7 @@ module _ (first : ℕ) (arrivals departures : List ℕ) where
           it true so none same = ap (λ z. p (window_of first arrivals departures z)) (sym same) ∙ (neither _ _ none).0
           it false so none same = absurd (cc)
 
--- without windows there is no refusal
+-- without windows no enqueue failed
 pub none_refused : (first : ℕ) (arrivals departures : List ℕ) (operations : List Operation) (windows : List Window)
     → windows ≡ windows_of first arrivals departures operations → length windows ≡ 0 → NoRefusal operations
 none_refused first arrivals departures operations windows is none o refusal =
@@ -245,7 +245,7 @@ none_refused first arrivals departures operations windows is none o refusal =
     empty [] none = refl
     empty (w ∷ ws) none = absurd (omega arith)
 
--- the least number that a window stays within is the least of the most during a refusal
+-- the least number that a window never exceeds is the minimum of the maximum during a failed enqueue
 pub refused_is : (first least : ℕ) (arrivals departures heights : List ℕ) (operations : List Operation) (windows : List Window) → IsNonDecreasing arrivals
     → AreHeights first arrivals departures heights → All (λ o. o.call < o.ret) operations → windows ≡ windows_of first arrivals departures operations
     → list_any (stays_within heights least) windows ≡ true → (0 < least → list_any (stays_within heights (least - 1)) windows ≡ false)
@@ -274,7 +274,7 @@ refused_is first least arrivals departures heights operations windows up are for
         let more = exceeds_so first arrivals departures heights up are o (least - 1) (goes o refusal.0) passed in
         (more.0, more.1, omega (arith, more.2))
 
--- the same numbers say the same
+-- equal numbers have the same minimum
 pub refused_alike : (operations : List Operation) (f g : ℕ → ℕ) (least : ℕ) → ((gap : ℕ) → f gap ≡ g gap) → IsRefusedAt operations f least
     → IsRefusedAt operations g least
 refused_alike operations f g least same is = record {
@@ -284,7 +284,7 @@ refused_alike operations f g least same is = record {
   at_each = λ o refusal. let one = is.at_each o refusal in (one.0, one.1, omega (arith, one.2, same one.0));
 }
 
--- tickets in another order say the same
+-- permuted tickets have the same minimum
 pub refused_permuted : (first least : ℕ) (arrivals arrivals' departures departures' : List ℕ) (operations : List Operation) → IsPermutation arrivals arrivals'
     → IsPermutation departures departures' → IsRefusedAt operations (there_at first arrivals' departures') least
     → IsRefusedAt operations (there_at first arrivals departures) least
@@ -293,9 +293,9 @@ refused_permuted first least arrivals arrivals' departures departures' operation
     (λ gap i. first + sum_by-IsPermutation (λ t. cond (nat_lt t gap) 1 0) arrivals arrivals' came i
     - sum_by-IsPermutation (λ t. cond (nat_lt t gap) 1 0) departures departures' went i) is
 
--- ---- one window stays within the greatest number
+-- ---- each window never exceeds the greatest number
 
--- whether one of them passes, if each does
+-- if each window passes a test, some window does, if there is one
 some_passes : (p : Window → Bool) (windows : List Window) → ((k : ℕ) (d : Window) → k < length windows → p (get_or windows k d) ≡ true) → 0 < length windows
     → list_any p windows ≡ true
 some_passes p [] each some = absurd (omega arith)
@@ -329,7 +329,7 @@ none_above most (h ∷ hs) (suc i) low =
     let more = none_above most hs i (λ k below. low (suc k) (omega arith)) in
     omega (arith, more, sum_by-cons (λ x. cond (nat_lt most x) 1 0) h (take i hs), ap {B = ℕ} (λ b. cond b 1 0) (le-ltb most h (low zero (omega arith))))
 
--- each window stays within the greatest number
+-- no window exceeds the greatest number
 pub stays_at_last : (first last : ℕ) (arrivals departures heights : List ℕ) (operations : List Operation) (windows : List Window)
     → windows ≡ windows_of first arrivals departures operations → AreHeights first arrivals departures heights → last ≡ first + length arrivals
     → 0 < length windows → list_any (stays_within heights last) windows ≡ true
@@ -348,7 +348,7 @@ stays_at_last first last arrivals departures heights operations windows is are g
         (λ i. le-leb (there_at first arrivals departures (o.call + 1)) last (omega arith) i
         && eq-eqb (count_above last (take (count_before (o.call + 1) arrivals) heights)) (count_above last (take (count_before o.ret arrivals) heights)) (omega arith) i)
 
--- the same, whether there was a refusal or not
+-- permuted tickets have the same minimum, whether an enqueue failed or not
 pub permuted_maybe : (first : ℕ) (least : Option ℕ) (arrivals arrivals' departures departures' : List ℕ) (operations : List Operation)
     → IsPermutation arrivals arrivals' → IsPermutation departures departures'
     → MatchOption least (NoRefusal operations) (IsRefusedAt operations (there_at first arrivals' departures'))
@@ -357,7 +357,7 @@ permuted_maybe first None arrivals arrivals' departures departures' operations c
 permuted_maybe first (Some least) arrivals arrivals' departures departures' operations came went is =
     refused_permuted first least arrivals arrivals' departures departures' operations came went is
 
--- what is there of what comes and goes is what may be in the queue
+-- the number present by arrivals and departures is the number that may be in the queue
 pub refused_maybe : (least : Option ℕ) (operations : List Operation) (f g : ℕ → ℕ) → ((gap : ℕ) → f gap ≡ g gap)
     → MatchOption least (NoRefusal operations) (IsRefusedAt operations f) → MatchOption least (NoRefusal operations) (IsRefusedAt operations g)
 refused_maybe None operations f g same is = is

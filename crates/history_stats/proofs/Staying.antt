@@ -1,4 +1,4 @@
--- Which values were put before a ticket and not taken before another, and how many calls come before each.
+-- The values that were enqueued before a ticket and not taken before another, and the number of calls before each.
 use Rattle.std.proofs.Common.{◌≡◌, ℕ, zero, suc, ◌+◌, ◌<◌, ◌≤◌, ◌++◌, List, [], ◌∷◌, length, get_or, cond, refl, sym, ◌∙◌, ap, Bool, true, false}
 use Rattle.std.proofs.Common.{All, append-nil, subst, inl, inr, arith, map, not, take, nat_lt, Option, Some, None}
 use Rattle.std.specs.Prelude.{count_by, filter_map, ◌&&◌, ◌||◌, option_map, find}
@@ -20,12 +20,12 @@ use Rattle.history_stats.specs.Inner.Overtaking.{CountStays, stays_at}
 use Rattle.history_stats.specs.declared.stays.Stay.{Stay}
 use Rattle.history_stats.proofs.AtOnce.{count_cons, count_few, count_rises}
 
--- ---- how many calls come before a dequeue
+-- ---- the number of calls before a dequeue
 
 calls_in : List Operation → List ℕ
 calls_in operations = map (λ o. o.call) operations
 
--- if a dequeue gave the value by a ticket, and none before it, then a call comes at that ticket
+-- if a dequeue of the value was called by a ticket, and none before it, a call comes at that ticket
 one_more_call : (v t : ℕ) (operations : List Operation) → is_taken_before t operations v ≡ false → is_taken_before (t + 1) operations v ≡ true
     → count_before t (map (λ o. o.call) operations) + 1 ≤ count_before (t + 1) (map (λ o. o.call) operations)
 one_more_call v t [] none some = absurd (cc)
@@ -55,35 +55,35 @@ taken_before operations v (Some t) is gap = elim (cases_lt t gap) [
   | inr after ↦ le-ltb _ _ (count_rises gap t (map (λ o. o.call) operations) after) ∙ sym (le-ltb t gap after) ∙ is gap
 ]
 
--- ---- one operation more
+-- ---- one more operation
 
--- what was unpacked stands where the item stood
+-- an unpacked element is at the place of its item
 pub is_at : {X : Type 0} (xs : List X) (i : ℕ) (item x : X) → item ≡ get_or xs i item → x ≡ item → x ≡ get_or xs i x
 is_at xs i item x at is = is ∙ at ∙ ap (get_or xs i) (sym is)
 
--- what is no enqueue put no value
+-- an operation other than an enqueue puts no value
 pub puts_none : (kind : OpKind) → ((v : ℕ) → kind ≡ Enq v → ⊥) → put_value kind ≡ None
 puts_none (Enq v) other = absurd (other v refl)
 puts_none (Deq v) other = refl
 puts_none Empty other = refl
 puts_none (Not v) other = refl
 
--- the values of one operation more
+-- the values of one more operation
 put_more : (p : ℕ) (operations : List Operation) (i : ℕ) (d : Operation) → i < length operations
     → values_put_before p (take (i + 1) operations) ≡ values_put_before p (take i operations) ++ cons_option (value_put_before p (get_or operations i d)) []
 put_more p operations i d within =
     ap (values_put_before p) (take_more operations i d within) ∙ filter_map-append (value_put_before p) (take i operations) (get_or operations i d ∷ [])
 
--- so far as many stays as values
+-- there are as many stays as values so far
 abbrev pub CountSoFar : List Operation → List ℕ → ℕ → List Stay → Type 0
 CountSoFar operations calls i stays = (p gap : ℕ) →
     count_by (stays_at p (count_before gap calls)) stays ≡ stay_count gap operations (values_put_before p (take i operations))
 
--- before the first operation
+-- the count before the first operation
 pub counted_first : (operations : List Operation) (calls : List ℕ) → CountSoFar operations calls 0 []
 counted_first operations calls p gap = refl
 
--- an operation that put no value
+-- one more operation, which put no value
 pub counted_none : (operations : List Operation) (calls : List ℕ) (i : ℕ) (o : Operation) (stays : List Stay) → i < length operations
     → o ≡ get_or operations i o → put_value o.kind ≡ None → CountSoFar operations calls i stays → CountSoFar operations calls (i + 1) stays
 counted_none operations calls i o stays within is none so_far p gap =
@@ -96,7 +96,7 @@ counted_none operations calls i o stays within is none so_far p gap =
     nothing : cons_option (value_put_before p (get_or operations i o)) [] ≡ []
     nothing = ap (λ x. cons_option (value_put_before p x) []) (sym is) ∙ neither (nat_lt o.ret p) (put_value o.kind) none
 
--- an operation that put a value, which has a stay
+-- one more operation, which put a value, with its stay
 pub counted_one : (operations : List Operation) (calls : List ℕ) (i v taken : ℕ) (o : Operation) (first : Option ℕ) (stays new : List Stay)
     → i < length operations → o ≡ get_or operations i o → put_value o.kind ≡ Some v → calls ≡ map (λ x. x.call) operations
     → ((gap : ℕ) → option_map_or (λ t. nat_lt t gap) first false ≡ is_taken_before gap operations v)
@@ -128,19 +128,19 @@ counted_one operations calls i v taken o first stays new within is some are_call
     same = ap (λ x. stay_count gap operations (cons_option (value_put_before p x) [])) (sym is)
         ∙ one (nat_lt o.ret p) (put_value o.kind) (not (nat_lt taken (count_before gap calls))) some (ap not taken_so)
 
--- after all operations
+-- the count after all operations
 pub counted_all : (operations : List Operation) (calls : List ℕ) (i : ℕ) (stays : List Stay) → length operations ≤ i → CountSoFar operations calls i stays
     → CountStays operations calls stays
 counted_all operations calls i stays all so_far p gap =
     so_far p gap ∙ ap (λ os. stay_count gap operations (values_put_before p os)) (take_all i operations all)
 
--- in another order they count the same
+-- permuted stays have the same count
 pub counted_sorted : (operations : List Operation) (calls : List ℕ) (stays sorted : List Stay) → IsPermutation stays sorted
     → CountStays operations calls stays → CountStays operations calls sorted
 counted_sorted operations calls stays sorted moved counted p gap =
     sum_by-IsPermutation (λ s. cond (stays_at p (count_before gap calls) s) 1 0) stays sorted moved ∙ counted p gap
 
--- the stays of the operations so far: they count the values, and each was taken after no more than all calls
+-- the stays of the operations so far: they count the values, and each value was taken after at most all calls
 pub record StaysSoFar (operations : List Operation) (calls : List ℕ) (i : ℕ) (stays : List Stay) : Type 0 where
   pub counted : CountSoFar operations calls i stays
   pub taken : All (λ s. s.taken ≤ length calls) stays

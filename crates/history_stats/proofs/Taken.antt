@@ -1,4 +1,4 @@
--- The calls of enqueues that are kept for values.
+-- The calls of enqueues kept for values.
 use Rattle.std.proofs.Common.{◌≡◌, ℕ, ◌+◌, ◌<◌, ◌≤◌, List, [], ◌∷◌, length, get_or, cond, refl, sym, ◌∙◌, ap, Bool, true, false, take, Option, Some, None}
 use Rattle.std.specs.Prelude.{find, option_map}
 use Rattle.std.specs.Option.{option_or}
@@ -10,7 +10,7 @@ use Rattle.history_merge.specs.declared.operation.Operation.{Operation}
 use Rattle.history_stats.specs.Overtaking.{put}
 use Rattle.history_stats.specs.Inner.Overtaking.{AreEnqueueCalls, enqueue_call}
 
--- one operation more
+-- one more operation
 pub calls_more : (operations : List Operation) (i : ℕ) (o : Operation) (old new : BTreeMap ℕ ℕ) → i < length operations → o ≡ get_or operations i o
     → ((v : ℕ) → get nat_cmp new v ≡ option_or (get nat_cmp old v) (cond (put v o.kind) (Some o.call) None))
     → AreEnqueueCalls (take i operations) old → AreEnqueueCalls (take (i + 1) operations) new

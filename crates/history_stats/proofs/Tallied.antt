@@ -1,4 +1,5 @@
--- Stays that are tallied in the order in which values were put: how many of those put before a ticket are not taken before another.
+-- Stays that are tallied in the order in which values were enqueued: how many of those enqueued before a ticket are
+-- not taken before another.
 use Rattle.std.proofs.Common.{◌≡◌, ℕ, zero, suc, ◌+◌, ◌-◌, ◌<◌, ◌≤◌, ◌++◌, ◌∷◌, List, [], length, get_or, cond, refl, sym, ◌∙◌, ap, Bool, true, false}
 use Rattle.std.proofs.Common.{All, None, Some, inl, inr, arith, map, not, take, nat_lt, subst}
 use Rattle.std.specs.Prelude.{count_by, ◌&&◌}
@@ -14,10 +15,10 @@ use Rattle.history_stats.specs.Inner.Tally.{HasRoomFor, IsTally}
 use Rattle.history_stats.specs.declared.stays.Stay.{Stay}
 use Rattle.history_stats.specs.declared.takings.Taking.{Taking}
 
--- ---- elements in the order of a key
+-- ---- elements sorted by a key
 
 module _ {X : Type 0} (key : X → ℕ) where
-  -- how many have a key below the gap
+  -- the number of elements with a key below the gap
   abbrev below : ℕ → List X → ℕ
   below gap xs = count_by (λ x. nat_lt (key x) gap) xs
 
@@ -33,14 +34,14 @@ module _ {X : Type 0} (key : X → ℕ) where
   rest_rises : (x : X) (xs : List X) → IsNonDecreasingBy key (x ∷ xs) → IsNonDecreasingBy key xs
   rest_rises x xs up = λ i j d le within. up (suc i) (suc j) d (omega arith) (omega arith)
 
-  -- if the first doesn't lie below, none does
+  -- if the first key isn't below, none is
   pub none_lies_below : (gap : ℕ) (x : X) (xs : List X) → IsNonDecreasingBy key (x ∷ xs) → gap ≤ key x → below gap (x ∷ xs) ≡ 0
   none_lies_below gap x [] up above = below_no gap x [] above
   none_lies_below gap x (y ∷ ys) up above =
       let first : key x ≤ key y = up zero (suc zero) x (omega arith) (omega arith) in
       below_no gap x (y ∷ ys) above ∙ none_lies_below gap y ys (rest_rises x (y ∷ ys) up) (omega arith)
 
-  -- if the one at a place lies below, so do those before it
+  -- if the key at a place is below, so are those before it
   pub lie_below : (gap : ℕ) (xs : List X) (i : ℕ) (d : X) → IsNonDecreasingBy key xs → i < length xs → key (get_or xs i d) < gap → i + 1 ≤ below gap xs
   lie_below gap [] i d up within less = absurd (omega arith)
   lie_below gap (x ∷ xs) zero d up within less = omega (arith, below_one gap x xs less)
@@ -49,7 +50,7 @@ module _ {X : Type 0} (key : X → ℕ) where
       let more = lie_below gap xs i d (rest_rises x xs up) (omega arith) less in
       omega (arith, below_one gap x xs (omega arith), more)
 
-  -- of those that are counted as lying below each lies below
+  -- each element that is counted as below is below
   pub lies_below : (gap : ℕ) (xs : List X) (i : ℕ) (d : X) → IsNonDecreasingBy key xs → i < below gap xs → key (get_or xs i d) < gap
   lies_below gap [] i d up few = absurd (omega arith)
   lies_below gap (x ∷ xs) zero d up few = elim (cases_lt (key x) gap) [
@@ -61,7 +62,7 @@ module _ {X : Type 0} (key : X → ℕ) where
     | inr above ↦ absurd (omega (arith, few, none_lies_below gap x xs up above))
   ]
 
-  -- below a later gap lie no fewer
+  -- at least as many are below a later gap
   pub below_rises : (gap later : ℕ) (xs : List X) → gap ≤ later → below gap xs ≤ below later xs
   below_rises gap later xs le =
       sum_by-le-sum_by (λ x. cond (nat_lt (key x) gap) 1 0) (λ x. cond (nat_lt (key x) later) 1 0) xs (λ x. one (key x))
@@ -82,7 +83,7 @@ has_room limit place number stays levels within are = record {
   few = omega (arith, are.few, length-map (take place stays) (λ (s : Stay). s.taken), length-take place stays);
 }
 
--- one stay more
+-- one more stay
 pub tallied_more : (limit place : ℕ) (d : Stay) (stays : List Stay) (old new : List (List ℕ)) → place < length stays
     → AreTallied limit stays place old
     → ((numbers : List ℕ) → (get_or stays place d).taken ≤ limit → IsTally limit numbers old → IsTally limit (numbers ++ (get_or stays place d).taken ∷ []) new)
@@ -94,7 +95,7 @@ tallied_more limit place d stays old new within are adds = record {
       (adds (map (λ s. s.taken) (take place stays)) (are.taken place d within) are.is_tally);
 }
 
--- of the stays in order those put before a ticket are first: they stay past another ticket, or were taken before it
+-- in sorted stays those enqueued before a ticket come first; they stay past another ticket, or were taken before it
 pub stay_or_taken : (p r : ℕ) (stays : List Stay) → IsNonDecreasingBy (λ s. s.put) stays
     → count_by (stays_at p r) stays + count_by (λ t. nat_lt t r) (map (λ s. s.taken) (take (count_by (λ s. nat_lt s.put p) stays) stays))
     ≡ count_by (λ s. nat_lt s.put p) stays
@@ -136,7 +137,7 @@ stay_or_taken p r (s ∷ rest) up = elim (cases_lt s.put p) [
     few : (xs : List Stay) → count_by (stays_at p r) xs ≤ count_by (λ x. nat_lt x.put p) xs
     few xs = sum_by-le-sum_by (λ x. cond (stays_at p r x) 1 0) (λ x. cond (nat_lt x.put p) 1 0) xs (λ x. less (nat_lt x.put p) (not (nat_lt x.taken r)))
 
--- a count of the tallied stays that were taken before a ticket
+-- the number of tallied stays that were taken before a ticket
 pub counted_few : (limit place r found : ℕ) (stays : List Stay) (levels : List (List ℕ)) → place ≤ length stays → r ≤ limit
     → AreTallied limit stays place levels
     → ((limit : ℕ) (numbers : List ℕ) → r ≤ limit → IsTally limit numbers levels → found ≡ count_by (λ x. nat_lt x r) numbers) → found ≤ place
@@ -148,7 +149,7 @@ counted_few limit place r found stays levels within fits are counts = omega (
   length-take-le place stays within,
 )
 
--- the others stay past it
+-- the other tallied stays stay past it
 pub counted_below : (limit place p r found : ℕ) (stays : List Stay) (levels : List (List ℕ)) → r ≤ limit → AreTallied limit stays place levels
     → IsNonDecreasingBy (λ s. s.put) stays → place ≡ count_by (λ s. nat_lt s.put p) stays
     → ((limit : ℕ) (numbers : List ℕ) → r ≤ limit → IsTally limit numbers levels → found ≡ count_by (λ x. nat_lt x r) numbers)
@@ -161,18 +162,18 @@ counted_below limit place p r found stays levels fits are up is counts = omega (
   is,
 )
 
--- no value is no overtaking
+-- overtaking no value is no overtaking
 pub overtakes_none : (count called v : ℕ) → count ≡ 0 → None ≡ overtaking_of count called v
 overtakes_none count called v none = ap (λ n. overtaking_of n called v) (sym none)
 
--- some values are one
+-- overtaking some values is one
 pub overtakes_some : (count n called v : ℕ) → (n ≡ 0 → ⊥) → n ≡ count
     → Some (record { count = n; ticket = called - ORIGIN; value = v }) ≡ overtaking_of count called v
 overtakes_some count n called v some is =
     ap (λ b. cond b (Some (record { count = n; ticket = called - ORIGIN; value = v })) None) (sym (lt-ltb 0 n (omega arith)))
     ∙ ap (λ m. overtaking_of m called v) is
 
--- before the next dequeue no more were put than before its value
+-- before the next dequeue no more values were enqueued than before its value
 pub few_next : (stays : List Stay) (takings : List Taking) (i put : ℕ) (x : Taking) → i < length takings → x ≡ get_or takings i x
     → put ≡ count_by (λ s. nat_lt s.put x.enqueue_call) stays → IsNonDecreasingBy (λ t. t.enqueue_call) takings → (k : ℕ) (d : Taking) → i + 1 ≤ k
     → k < length takings → put ≤ count_by (λ s. nat_lt s.put (get_or takings k d).enqueue_call) stays

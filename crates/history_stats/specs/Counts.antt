@@ -1,4 +1,4 @@
--- How many events and operations of a history are of a kind.
+-- Numbers of events and operations of a history.
 use Rattle.std.specs.Prelude.{ℕ, Bool, true, false, List, not, ◌&&◌, nat_eq, nat_lt, drop, count_by, ◌==◌, ◌*◌, ◌/◌, if◌then◌else◌}
 use Rattle.std.specs.List.{list_any, range_with_len, zip}
 use Rattle.event_records.specs.declared.event.Event.{Event}
@@ -13,27 +13,27 @@ use Rattle.history_merge.specs.declared.operation.OpKind.TheVariants.{Enq, Deq, 
 abbrev pub has_event : List Event → ℕ → Bool
 has_event events thread = list_any (λ e. nat_eq e.thread thread) events
 
--- how many of the threads that there may be have an event
+-- the number of possible threads that have an event
 unfoldable pub thread_count : List Event → ℕ
 thread_count events = count_by (has_event events) (range_with_len 0 MAX_THREADS)
 
--- how many events are of another thread than the event before
+-- the number of events that are of another thread than the event before
 abbrev pub change_count : List Event → ℕ
 change_count events = count_by (λ pair. not (nat_eq pair.0.thread pair.1.thread)) (zip events (drop 1 events))
 
 -- ---- operations
 
--- an enqueue that the queue took
+-- a successful enqueue
 abbrev pub is_enqueued : OpKind → Bool
 is_enqueued (Enq v) = true
 is_enqueued _ = false
 
--- an enqueue that the queue refused
+-- a failed enqueue
 abbrev pub is_refused : OpKind → Bool
 is_refused (Not v) = true
 is_refused _ = false
 
--- a dequeue that gave a value
+-- a dequeue that got a value
 abbrev pub is_dequeued : OpKind → Bool
 is_dequeued (Deq v) = true
 is_dequeued _ = false
@@ -43,7 +43,7 @@ abbrev pub is_empty : OpKind → Bool
 is_empty Empty = true
 is_empty _ = false
 
--- how many operations are of a kind
+-- the number of operations of a kind
 abbrev pub kind_count : (OpKind → Bool) → List Operation → ℕ
 kind_count is_kind operations = count_by (λ o. is_kind o.kind) operations
 
@@ -53,14 +53,14 @@ kind_count is_kind operations = count_by (λ o. is_kind o.kind) operations
 abbrev pub precedes : Operation → Operation → Bool
 precedes x y = nat_lt x.ret y.call
 
--- they are two operations, called at two tickets, and neither precedes the other
+-- the two operations are called at different tickets, and neither precedes the other
 abbrev pub overlap : Operation → Operation → Bool
 overlap x y = not (nat_eq x.call y.call) && (not (precedes x y) && not (precedes y x))
 
--- how many operations overlap another one
+-- the number of operations that overlap another one
 abbrev pub overlapping_count : List Operation → ℕ
 overlapping_count operations = count_by (λ o. list_any (overlap o) operations) operations
 
--- the tenths of a percent that a part is of the whole, rounded down; of no whole it is none
+-- the tenths of a percent that a part is of the whole, rounded down; none of no whole
 abbrev pub tenths_of_percent : ℕ → ℕ → ℕ
 tenths_of_percent part whole = if whole == 0 then 0 else part * 1000 / whole

@@ -10,11 +10,11 @@ use Rattle.history_merge.specs.declared.operation.OpKind.TheVariants.{Enq, Deq, 
 use Rattle.history_stats.specs.AtOnce.{stay_count, values_put_before}
 use Rattle.history_stats.specs.declared.overtaking.Overtaking.{Overtaking}
 
--- all operations on one scale of time: the initial values are enqueued one after another, before ticket 0
+-- all operations on the scale of times: the initial values are enqueued one after another, before ticket 0
 abbrev pub all_operations : HistoryView → List Operation
 all_operations history = initial_enqueues history.initial ++ map (later_by ORIGIN) (operations_of history.events)
 
--- an operation of this kind put the value into the queue
+-- an operation of this kind enqueued the value
 abbrev pub put : ℕ → OpKind → Bool
 put v (Enq w) = nat_eq v w
 put v _ = false
@@ -23,15 +23,16 @@ put v _ = false
 abbrev pub values_before : List Operation → ℕ → List ℕ
 values_before operations v = option_map_or (λ e. values_put_before e.call operations) (find (λ o. put v o.kind) operations) []
 
--- how many values a dequeue that gave v, and returned then, certainly overtook: enqueued before v, and not in a dequeue by then
+-- the number of values that a dequeue of v, which returned at this time, certainly overtook: they were enqueued
+-- before v, and no dequeue of them was called by then
 abbrev pub overtaken_count : List Operation → ℕ → ℕ → ℕ
 overtaken_count operations returned v = stay_count returned operations (values_before operations v)
 
--- the overtaking of this many values, if there are any, by a dequeue that gave v and was called then
+-- the overtaking of this many values, if there are any, by a dequeue of v that was called at this time
 abbrev pub overtaking_of : ℕ → ℕ → ℕ → Option Overtaking
 overtaking_of count called v = (if nat_lt 0 count then Some (record { count = count; ticket = called - ORIGIN; value = v }) else None)
 
--- the overtaking of an operation of this kind: none if it overtook no value
+-- the overtaking of an operation of this kind; none if it overtook no value
 abbrev pub overtaking_by : List Operation → Operation → OpKind → Option Overtaking
 overtaking_by operations o (Deq v) = overtaking_of (overtaken_count operations o.ret v) o.call v
 overtaking_by operations o _ = None
@@ -40,7 +41,7 @@ overtaking_by operations o _ = None
 abbrev pub overtakings : HistoryView → List Overtaking
 overtakings history = let operations = all_operations history in filter_map (λ o. overtaking_by operations o o.kind) operations
 
--- the greatest of the numbers, 0 of none
+-- the greatest of the numbers; 0 if there are none
 abbrev pub greatest : List ℕ → ℕ
 greatest [] = 0
 greatest (n ∷ rest) = max n (greatest rest)

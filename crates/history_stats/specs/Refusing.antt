@@ -1,4 +1,4 @@
--- How full the queue may have been while it refused a value.
+-- How full the queue may have been during failed enqueues.
 use Rattle.std.specs.Prelude.{◌≡◌, ℕ, ◌<◌, ◌≤◌, Bool, List, ◌++◌, not, ◌&&◌, nat_lt, count_by, filter_map, Contains, Option, None, true, if◌then◌else◌}
 use Rattle.std.specs.List.{list_any}
 use Rattle.history_merge.specs.Initial.{HistoryView}
@@ -7,7 +7,7 @@ use Rattle.history_merge.specs.declared.operation.Operation.{Operation}
 use Rattle.history_stats.specs.AtOnce.{gave, put_value}
 use Rattle.history_stats.specs.Counts.{is_refused}
 
--- the value that the operation put into the queue, if it was called before the gap
+-- the value that the operation enqueued, if it was called before the gap
 abbrev pub value_called_before : ℕ → Operation → Option ℕ
 value_called_before gap o = if nat_lt o.call gap then put_value o.kind else None
 
@@ -15,21 +15,23 @@ value_called_before gap o = if nat_lt o.call gap then put_value o.kind else None
 abbrev pub values_called_before : ℕ → List Operation → List ℕ
 values_called_before gap operations = filter_map (value_called_before gap) operations
 
--- a dequeue that gave the value returned before the gap
+-- a dequeue of the value returned before the gap
 abbrev pub is_gone_before : ℕ → List Operation → ℕ → Bool
 is_gone_before gap operations v = list_any (λ o. gave v o.kind && nat_lt o.ret gap) operations
 
--- how many of the values may have been in the queue at the gap, each of them called for before: no dequeue had returned that gave it
+-- the number of these values, each called for before the gap, that may have been in the queue at it: no dequeue of
+-- them had returned
 abbrev pub left_count : ℕ → List Operation → List ℕ → ℕ
 left_count gap operations values = count_by (λ v. not (is_gone_before gap operations v)) values
 
--- how many values may have been in the queue at the gap: initial ones, and those whose enqueues were called before
+-- the number of values that may have been in the queue at the gap: initial ones, and those whose enqueues were called
+-- before
 abbrev pub maybe_queued_at : HistoryView → ℕ → ℕ
 maybe_queued_at history gap =
     let operations = operations_of history.events in
     left_count gap operations (history.initial ++ values_called_before gap operations)
 
--- one of the operations, an enqueue that the queue refused
+-- a failed enqueue, one of the operations
 abbrev pub IsRefusal : List Operation → Operation → Type 0
 IsRefusal operations o = Contains operations o × (is_refused o.kind ≡ true)
 
@@ -37,14 +39,14 @@ IsRefusal operations o = Contains operations o × (is_refused o.kind ≡ true)
 abbrev pub IsDuring : Operation → ℕ → Type 0
 IsDuring o gap = (o.call < gap) × (gap ≤ o.ret)
 
--- of the refusals, the least of the most values that may have been in the queue at a gap of the call: at one refusal there
--- were never more than that, and at each there were as many at some gap
+-- the minimum, over the failed enqueues, of the maximum number of values that may have been in the queue at a gap of
+-- the call: during one of them there were never more, and during each there were as many at some gap
 pub record IsRefusedAt (operations : List Operation) (number_at : ℕ → ℕ) (least : ℕ) : Type 0 where
   pub refusal : Operation
   pub is_refusal : IsRefusal operations refusal
   pub at_most : (gap : ℕ) → IsDuring refusal gap → number_at gap ≤ least
   pub at_each : (other : Operation) → IsRefusal operations other → (gap : ℕ) × IsDuring other gap × (least ≤ number_at gap)
 
--- no enqueue was refused
+-- no enqueue failed
 abbrev pub NoRefusal : List Operation → Type 0
 NoRefusal operations = (o : Operation) → ¬ (IsRefusal operations o)

@@ -9,7 +9,7 @@ use Rattle.history_stats.specs.AtOnce.{IsMost, pending_at, queued_at}
 use Rattle.history_stats.specs.Counts.{change_count, is_dequeued, is_empty, is_enqueued, is_refused, kind_count, overlapping_count, tenths_of_percent}
 use Rattle.history_stats.specs.Counts.{thread_count}
 
--- each number is what its name says of the history
+-- each number is that of its name
 pub record AreStatisticsOf (history : HistoryView) (s : Statistics) : Type 0 where
   pub events : s.events ≡ length history.events
   pub operations : s.operations ≡ length (operations_of history.events)

@@ -14,7 +14,7 @@ statistic_line name value = line (spaced (name ∷ value ∷ []))
 abbrev pub decimal_of_tenths : ℕ → List ℕ
 decimal_of_tenths tenths = decimal (tenths / 10) ++ codes "." ++ decimal (tenths % 10)
 
--- the lines of all numbers, in this order; the last one only where an enqueue was refused
+-- the lines of all numbers, in this order; the last one only if an enqueue failed
 abbrev pub statistics_text : Statistics → List ℕ
 statistics_text s = statistic_line (codes "events") (decimal s.events)
     ++ statistic_line (codes "operations") (decimal s.operations)
@@ -33,10 +33,10 @@ statistics_text s = statistic_line (codes "events") (decimal s.events)
     ++ statistic_line (codes "overtaken-at-most") (decimal s.overtaken_at_most)
     ++ option_map_or (λ least. statistic_line (codes "refused-at") (decimal least)) s.refused_at []
 
--- the line of an overtaking: how many values, the ticket of the dequeue's call, its value
+-- the line of an overtaking: the number of values, the ticket of the dequeue's call, its value
 abbrev pub overtaking_line : Overtaking → List ℕ
 overtaking_line o = line (spaced (decimal o.count ∷ decimal o.ticket ∷ decimal o.value ∷ []))
 
--- a line for each
+-- a line for each overtaking
 abbrev pub overtakings_text : List Overtaking → List ℕ
 overtakings_text overtakings = flat_map overtaking_line overtakings

@@ -1,13 +1,13 @@
-//! The most that are there at once, of what comes and goes at tickets.
+//! The maximum number of things that are present at once, when they come and go at tickets.
 ghost use Rattle.std.specs.Prelude.{◌≡◌, ◌+◌, ◌-◌, ◌<◌, ◌≤◌, ◌^◌, length, vec_len};
 ghost use Rattle.std.specs.List.Sorted.{IsNonDecreasing};
 ghost use Rattle.history_stats.specs.AtOnce.{IsMost};
 ghost use Rattle.history_stats.specs.Inner.AtOnce.{count_before};
 
-/// Returns the most that are there at one gap: `first` are there from the beginning, one more comes at each of the
-/// first tickets, and one goes at each of the second.
+/// Returns the maximum number present at one gap: `first` are present from the beginning, one comes at each ticket of
+/// `arrivals`, and one goes at each of `departures`.
 ///
-/// Takes time O(n log n) for n tickets, and no memory.
+/// Takes O(n log n) time for n tickets, and no memory.
 pub(crate) fn most_of(first: usize, mut arrivals: Vec<u64>, mut departures: Vec<u64>) -> usize
     requires few { first + vec_len arrivals < 2 ^ 63 }
     ensures { IsMost (λ gap. first + count_before gap arrivals.items - count_before gap departures.items) result }
@@ -17,7 +17,7 @@ pub(crate) fn most_of(first: usize, mut arrivals: Vec<u64>, mut departures: Vec<
     most_in_order(first, &arrivals, &departures)
 }
 
-/// Does so for tickets that lie in order, in time in proportion to them.
+/// Returns the maximum number present for sorted tickets, in time in proportion to them.
 fn most_in_order(first: usize, arrivals: &[u64], departures: &[u64]) -> usize
     requires arrivals { IsNonDecreasing arrivals.now }
     requires departures { IsNonDecreasing departures.now }
@@ -33,7 +33,7 @@ fn most_in_order(first: usize, arrivals: &[u64], departures: &[u64]) -> usize
     most
 }
 
-/// Returns how many go at this ticket or before it, of which some are known to.
+/// Returns the number of departures at this ticket or before it. At least `known` are.
 fn gone_by(departures: &[u64], known: usize, ticket: u64) -> usize
     requires departures { IsNonDecreasing departures.now }
     requires known { known ≤ count_before (ticket + 1) departures.now }
@@ -46,7 +46,7 @@ fn gone_by(departures: &[u64], known: usize, ticket: u64) -> usize
     gone
 }
 
-/// Returns how many of the tickets, which lie in order, come before this one. Time O(log n) for n tickets.
+/// Returns the number of sorted tickets that come before this one. Takes O(log n) time for n tickets.
 pub(crate) fn count_before(tickets: &[u64], ticket: u64) -> usize
     requires { IsNonDecreasing tickets.now }
     ensures { result ≡ count_before ticket tickets.now }
@@ -54,7 +54,7 @@ pub(crate) fn count_before(tickets: &[u64], ticket: u64) -> usize
     tickets.partition_point(|other| *other < ticket)
 }
 
-/// Returns how many of the tickets, which lie in order, come before this one or are it. Time O(log n) for n tickets.
+/// Returns the number of sorted tickets that are at most this one. Takes O(log n) time for n tickets.
 pub(crate) fn count_by(tickets: &[u64], ticket: u64) -> usize
     requires { IsNonDecreasing tickets.now }
     ensures { result ≡ count_before (ticket + 1) tickets.now }

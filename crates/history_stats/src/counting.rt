@@ -15,7 +15,7 @@ pub(crate) fn thread_count(events: &[Event]) -> usize
     count_set(&threads_in(events))
 }
 
-/// Returns for each thread that there may be whether it has an event.
+/// Returns for each possible thread whether it has an event.
 fn threads_in(events: &[Event]) -> [bool; MAX_THREADS]
     requires { All (λ e. e.thread ≤ MAX_THREAD) events.now }
     ensures marks { (thread : ℕ) → thread < MAX_THREADS → slice_index_or result thread false ≡ has_event events.now thread }
@@ -76,7 +76,7 @@ pub(crate) fn refused_count(operations: &Operations<'_>) -> usize
         .count()
 }
 
-/// Counts the dequeues that gave a value.
+/// Counts the dequeues that got a value.
 pub(crate) fn dequeued_count(operations: &Operations<'_>) -> usize
     ensures { result ≡ kind_count is_dequeued operations.now }
 {

@@ -1,5 +1,5 @@
-//! What a history is like, in numbers: how many events, operations and threads it has, how far its operations
-//! overlap, how many values its queue definitely held, and which dequeues certainly overtook values.
+//! The statistics of a history: the numbers of its events, operations and threads, how far its operations overlap,
+//! how many values its queue definitely held, and which dequeues certainly overtook values.
 #![tactic(auto)]
 
 mod at_once;

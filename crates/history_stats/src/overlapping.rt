@@ -1,4 +1,4 @@
-//! How many operations overlap another one.
+//! The number of operations that overlap another one.
 ghost use Rattle.std.specs.Prelude.{◌≡◌, ◌<◌, ◌≤◌, ◌++◌, ◌∷◌, All, AllPairs, List, length, nat_le, nat_lt};
 ghost use Rattle.std.specs.List.{list_any};
 ghost use Rattle.history_merge.specs.declared.operation.Operation.{Operation};
@@ -31,7 +31,8 @@ pub(crate) fn overlapping_count(operations: &Operations<'_>) -> usize
     count
 }
 
-/// Whether an operation overlaps one of those before it, of which the last return is known, or one of those after it.
+/// Returns whether an operation overlaps one of those before it, whose last return is given, or one of those after
+/// it.
 fn overlaps_another(
     operation: Operation,
     has_earlier: bool,
@@ -47,7 +48,8 @@ fn overlaps_another(
     returns_from(has_earlier, last_return, operation.call) || is_called_by(later, operation.ret)
 }
 
-/// Whether one of some operations returns at the ticket or later, by whether there are any and their last return.
+/// Returns whether one of some operations returns at `ticket` or later, given whether there are any and their last
+/// return.
 fn returns_from(are_any: bool, last_return: u64, ticket: u64) -> bool
     ensures { (operations : List Operation) → are_any ≡ nat_lt 0 (length operations) → IsLastReturn operations last_return
         → result ≡ list_any (λ o. nat_le ticket o.ret) operations }
@@ -55,7 +57,7 @@ fn returns_from(are_any: bool, last_return: u64, ticket: u64) -> bool
     are_any && ticket <= last_return
 }
 
-/// Whether one of the operations is called by the ticket.
+/// Returns whether one of the operations is called by `ticket`.
 fn is_called_by(operations: &Operations<'_>, ticket: u64) -> bool
     requires { AllPairs (λ x y. x.call < y.call) operations.now }
     ensures { result ≡ list_any (λ o. nat_le o.call ticket) operations.now }

@@ -12,21 +12,21 @@ use event_records::ORIGIN;
 use history_merge::{History, PackedOperation};
 use std::alloc::{AllocError, Global};
 
-/// A dequeue that certainly overtook values: they were enqueued before its own, and dequeued after it or never.
+/// A dequeue that certainly overtook values: they were enqueued before its own value, and dequeued after it or never.
 #[derive(Clone, Copy)]
 pub struct Overtaking {
-    /// The values that it certainly overtook.
+    /// The number of values that it certainly overtook.
     pub count: usize,
     /// The ticket of its call.
     pub ticket: u64,
-    /// The value that it gave.
+    /// The value that it got.
     pub value: u64,
 }
 
 /// Returns the dequeues of a history that certainly overtook a value, in the order of their calls.
 ///
-/// `AllocError` comes only if memory runs out. Takes time O(n log n) for n events and initial values, and memory in
-/// proportion to them.
+/// The only error is out of memory. Takes O(n log n) time for n events and initial values, and memory in proportion
+/// to them.
 pub fn overtakings_of(alloc: Global, history: &History) -> Result<Vec<Overtaking>, AllocError>
     ensures { IfOk result (λ found. found.items ≡ overtakings history.now) }
 {
@@ -44,7 +44,7 @@ pub fn overtakings_of(alloc: Global, history: &History) -> Result<Vec<Overtaking
     Ok(found)
 }
 
-/// Returns the most values that one of the dequeues overtook; 0 of none.
+/// Returns the maximum number of values that one of the dequeues overtook; 0 if there are none.
 pub(crate) fn greatest_count(overtakings: &[Overtaking]) -> usize
     ensures { result ≡ greatest (map (λ o. o.count) overtakings.now) }
 {
@@ -68,7 +68,7 @@ fn calls_of(alloc: Global, operations: &[PackedOperation]) -> Result<Vec<u64>, A
 
 /// Returns the overtakings among dequeues that come in the order of their values' enqueues.
 ///
-/// Before each dequeue those values are tallied, by their own dequeues, that were put before its value.
+/// Before each dequeue the values that were enqueued before its own are tallied by their dequeues.
 fn find_all(
     alloc: Global,
     calls: &[u64],
@@ -94,7 +94,8 @@ fn find_all(
     Ok(found)
 }
 
-/// Tallies the stays from this place on that were put before a ticket, and returns the place after the last of them.
+/// Tallies the stays from `place` on whose values were enqueued before a ticket. Returns the place after the last of
+/// them.
 fn put_before(tally: &mut Tally, stays: &[Stay], place: usize, ticket: u64) -> usize
     requires in_order { IsNonDecreasingBy (λ s. s.put) stays.now }
     requires place { place ≤ count_by (λ s. nat_lt s.put ticket) stays.now }

@@ -1,4 +1,4 @@
-//! The most operations that were pending at once.
+//! The maximum number of operations pending at once.
 ghost use Rattle.std.specs.Prelude.{◌≡◌, ◌<◌, ◌≤◌, All, IfOk, length, map};
 ghost use Rattle.event_records.specs.declared.limits.TheConstants.{MAX_EVENTS};
 ghost use Rattle.history_merge.specs.declared.operation.Operation.{Operation};
@@ -8,9 +8,9 @@ use crate::at_once::most_of;
 use history_merge::Operations;
 use std::alloc::{AllocError, Global};
 
-/// Returns the most operations that were pending at one gap.
+/// Returns the maximum number of operations pending at one gap.
 ///
-/// Takes time O(n log n) for n operations, and memory for two tickets of each.
+/// Takes O(n log n) time for n operations, and memory for two tickets of each.
 pub(crate) fn most_pending(alloc: Global, operations: &Operations<'_>) -> Result<usize, AllocError>
     requires forward { All (λ o. o.call < o.ret) operations.now }
     requires few { length operations.now ≤ MAX_EVENTS }

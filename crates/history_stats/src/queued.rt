@@ -1,4 +1,4 @@
-//! The most values that were definitely in the queue at once.
+//! The maximum number of values that were definitely in the queue at once.
 ghost use Rattle.std.specs.Prelude.{◌≡◌, ◌+◌, ◌≤◌, ◌++◌, ◌&&◌, ◌||◌, ◌==◌, ◌∷◌, [], ℕ, IfOk, OnOk};
 ghost use Rattle.std.specs.Prelude.{count_by, false, if◌then◌else◌, length, nat_lt, not, vec_len};
 ghost use Rattle.std.specs.Option.{option_map_or};
@@ -13,9 +13,9 @@ use history_merge::{OpKind, Operation, Operations};
 use std::alloc::{AllocError, Global};
 use std::collections::BTreeMap;
 
-/// Returns the most values that were definitely in the queue at one gap.
+/// Returns the maximum number of values that were definitely in the queue at one gap.
 ///
-/// Takes time O(n log n) for n operations and initial values, and memory in proportion to them.
+/// Takes O(n log n) time for n operations and initial values, and memory in proportion to them.
 pub(crate) fn most_queued(
     alloc: Global,
     initial: &[u64],
@@ -33,7 +33,7 @@ pub(crate) fn most_queued(
     Ok(most_of(initial.len(), arrivals, departures))
 }
 
-/// Returns for each value that a dequeue gave the ticket at which the first such dequeue was called.
+/// Returns for each dequeued value the ticket at which the first dequeue of it was called.
 fn first_takes(alloc: Global, operations: &Operations<'_>) -> Result<BTreeMap<u64, u64>, AllocError>
     ensures { IfOk result (λ takes. (gap v : ℕ) → is_kept_before gap takes v ≡ is_taken_before gap operations.now v) }
 {
@@ -46,7 +46,7 @@ fn first_takes(alloc: Global, operations: &Operations<'_>) -> Result<BTreeMap<u6
     Ok(takes)
 }
 
-/// Keeps the ticket for the value, if no lower one is kept for it.
+/// Keeps the ticket for the value, unless a lower one is kept.
 pub(crate) fn keep_least(
     kept: &mut BTreeMap<u64, u64>,
     value: u64,
@@ -62,14 +62,14 @@ pub(crate) fn keep_least(
     Ok(())
 }
 
-/// Returns the ticket that is kept for the value, if one is.
+/// Returns the ticket kept for the value, if there is one.
 pub(crate) fn ticket_for(kept: &BTreeMap<u64, u64>, value: u64) -> Option<u64>
     ensures { (gap : ℕ) → option_map_or (λ t. nat_lt t gap) result false ≡ is_kept_before gap kept.now value }
 {
     kept.get(&value).copied()
 }
 
-/// Adds the tickets at which initial values go.
+/// Adds the tickets at which initial values leave.
 pub(crate) fn add_initial(
     departures: &mut Vec<u64>,
     values: &[u64],
@@ -84,7 +84,7 @@ pub(crate) fn add_initial(
     Ok(())
 }
 
-/// Adds the ticket at which a value goes, if it was taken.
+/// Adds the ticket at which a value leaves, if it is dequeued.
 fn add_go(departures: &mut Vec<u64>, take: Option<u64>) -> Result<(), AllocError>
     ensures { OnOk result ((gap : ℕ) → count_before gap departures.new.items
         ≡ count_before gap departures.old.items + (if option_map_or (λ t. nat_lt t gap) take false then 1 else 0)) }
@@ -95,7 +95,7 @@ fn add_go(departures: &mut Vec<u64>, take: Option<u64>) -> Result<(), AllocError
     Ok(())
 }
 
-/// Adds the tickets at which the values of enqueues come and go.
+/// Adds the tickets at which the values of enqueues come and leave.
 fn add_enqueued(
     arrivals: &mut Vec<u64>,
     departures: &mut Vec<u64>,
@@ -112,7 +112,7 @@ fn add_enqueued(
     Ok(())
 }
 
-/// Adds the tickets at which the value of one operation comes and goes, if it is an enqueue.
+/// Adds the tickets at which the value of one operation comes and leaves, if it is an enqueue.
 fn add_one(
     arrivals: &mut Vec<u64>,
     departures: &mut Vec<u64>,
@@ -134,7 +134,8 @@ fn add_one(
     }
 }
 
-/// Adds the tickets at which a value comes, and goes if it was taken. It doesn't go before it comes.
+/// Adds the ticket at which a value comes, and that at which it leaves if it is dequeued. It doesn't leave before it
+/// comes.
 pub(crate) fn add_stay(
     arrivals: &mut Vec<u64>,
     departures: &mut Vec<u64>,

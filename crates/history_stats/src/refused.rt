@@ -1,4 +1,4 @@
-//! How full the queue may have been while it refused a value.
+//! How full the queue may have been during failed enqueues.
 ghost use Rattle.std.specs.Prelude.{◌≡◌, ◌+◌, ◌-◌, ◌<◌, ◌≤◌, ◌++◌, ◌∷◌, ◌^◌, [], ℕ, All, IfOk, List, MatchOption, OnOk, count_by, false, filter_map, length};
 ghost use Rattle.std.specs.Prelude.{nat_lt, not, slice_index_or, take, true, vec_len};
 ghost use Rattle.std.specs.List.{list_any};
@@ -16,8 +16,8 @@ use history_merge::{OpKind, Operation, Operations};
 use std::alloc::{AllocError, Global};
 use std::collections::BTreeMap;
 
-/// How many values may be in the queue just after the call of a failed enqueue, and the arrivals during it, by their
-/// places.
+/// The number of values that may be in the queue just after the call of a failed enqueue, and the places of the
+/// arrivals during it.
 #[derive(Clone, Copy)]
 pub(crate) struct Window {
     start: usize,
@@ -25,9 +25,10 @@ pub(crate) struct Window {
     to: usize,
 }
 
-/// Returns, of the failed enqueues, the least of the most values that may have been in the queue at one gap of the call.
+/// Returns the minimum, over the failed enqueues, of the maximum number of values that may have been in the queue at
+/// one gap of the call.
 ///
-/// Takes time O(n log n) for n operations and initial values, and memory in proportion to them.
+/// Takes O(n log n) time for n operations and initial values, and memory in proportion to them.
 pub(crate) fn refused_at(
     alloc: Global,
     initial: &[u64],
@@ -47,7 +48,7 @@ pub(crate) fn refused_at(
     refused_among(alloc, initial.len(), arrivals, departures, operations)
 }
 
-/// Returns for each value that a dequeue gave the ticket at which the first such dequeue returned.
+/// Returns for each dequeued value the ticket at which the first dequeue of it returned.
 fn first_gone(alloc: Global, operations: &Operations<'_>) -> Result<BTreeMap<u64, u64>, AllocError>
     ensures { IfOk result (λ gone. (gap v : ℕ) → is_kept_before gap gone v ≡ is_gone_before gap operations.now v) }
 {
@@ -60,7 +61,7 @@ fn first_gone(alloc: Global, operations: &Operations<'_>) -> Result<BTreeMap<u64
     Ok(gone)
 }
 
-/// Adds the tickets at which the values of enqueues may come, and are gone.
+/// Adds the tickets from which the values of enqueues may be in the queue, and those by which they are gone.
 fn add_called(
     arrivals: &mut Vec<u64>,
     departures: &mut Vec<u64>,
@@ -77,7 +78,8 @@ fn add_called(
     Ok(())
 }
 
-/// Adds the tickets at which the value of one operation may come, and is gone, if it is an enqueue.
+/// Adds the ticket from which the value of one operation may be in the queue, and that by which it is gone, if it is
+/// an enqueue.
 fn add_one(
     arrivals: &mut Vec<u64>,
     departures: &mut Vec<u64>,
@@ -99,8 +101,8 @@ fn add_one(
     }
 }
 
-/// Returns, of the failed enqueues, the least of the most that are there at one gap of the call: `first` are there from
-/// the beginning, one more comes at each of the first tickets, and one goes at each of the second.
+/// Returns the minimum, over the failed enqueues, of the maximum number present at one gap of the call: `first` are
+/// present from the beginning, one comes at each ticket of `arrivals`, and one goes at each of `departures`.
 fn refused_among(
     alloc: Global,
     first: usize,
@@ -117,7 +119,7 @@ fn refused_among(
     refused_in_order(alloc, first, &arrivals, &departures, operations)
 }
 
-/// Does so for tickets that lie in order.
+/// Returns the same minimum for sorted tickets.
 fn refused_in_order(
     alloc: Global,
     first: usize,
@@ -178,7 +180,7 @@ fn window_of(first: usize, arrivals: &[u64], departures: &[u64], operation: Oper
     }
 }
 
-/// Returns for each arrival how many are there just after it.
+/// Returns for each arrival the number present just after it.
 fn heights_of(
     alloc: Global,
     first: usize,
@@ -197,9 +199,9 @@ fn heights_of(
     Ok(heights)
 }
 
-/// Returns the least number that one of the windows stays within, by halving; all stay within the last number.
+/// Returns the least number that one of the windows never exceeds, by bisection. Some window never exceeds `last`.
 ///
-/// Takes time O(n log n) for n heights and windows.
+/// Takes O(n log n) time for n heights and windows.
 fn least_within(heights: &[usize], windows: &[Window], above: &mut [usize], last: usize) -> usize
     requires room { length above.old ≡ length heights.now + 1 }
     requires last { list_any (stays_within heights.now last) windows.now ≡ true }
@@ -220,7 +222,7 @@ fn least_within(heights: &[usize], windows: &[Window], above: &mut [usize], last
     least
 }
 
-/// Returns whether one of the windows stays within a number.
+/// Returns whether one of the windows never exceeds `most`.
 fn one_stays_within(heights: &[usize], windows: &[Window], above: &mut [usize], most: usize) -> bool
     requires room { length above.old ≡ length heights.now + 1 }
     requires ends { All (λ w. (w.from ≤ length heights.now) × (w.to ≤ length heights.now)) windows.now }
@@ -236,8 +238,7 @@ fn one_stays_within(heights: &[usize], windows: &[Window], above: &mut [usize], 
     false
 }
 
-/// Returns whether in a window there are never more than a number, by how many of the heights before each place are above
-/// it.
+/// Returns whether a window never exceeds `most`. `above` counts for each place the heights before it that do.
 fn stays_within(above: &[usize], window: Window, most: usize) -> bool
     requires { (window.from < length above.now) × (window.to < length above.now) }
     ensures { (heights : List ℕ) → window.from ≤ length heights → window.to ≤ length heights
@@ -246,7 +247,7 @@ fn stays_within(above: &[usize], window: Window, most: usize) -> bool
     window.start <= most && above[window.from] == above[window.to]
 }
 
-/// Counts for each place, and for the end, how many of the heights before it are above a number.
+/// Counts for each place, and for the end, the heights before it that exceed `most`.
 fn count_above(heights: &[usize], above: &mut [usize], most: usize)
     requires { length above.old ≡ length heights.now + 1 }
     ensures room { length above.new ≡ length heights.now + 1 }

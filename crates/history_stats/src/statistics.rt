@@ -14,45 +14,46 @@ use event_records::Event;
 use history_merge::History;
 use std::alloc::{AllocError, Global};
 
-/// What a history is like, in numbers.
+/// The statistics of a history.
 #[derive(Clone, Copy)]
 pub struct Statistics {
-    /// The events.
+    /// The number of events.
     pub events: usize,
-    /// The operations.
+    /// The number of operations.
     pub operations: usize,
-    /// The threads that have an event.
+    /// The number of threads that have an event.
     pub threads: usize,
-    /// The successful enqueues.
+    /// The number of successful enqueues.
     pub enqueued: usize,
-    /// The failed enqueues.
+    /// The number of failed enqueues.
     pub refused: usize,
-    /// The dequeues that gave a value.
+    /// The number of dequeues that got a value.
     pub dequeued: usize,
-    /// The dequeues that found the queue empty.
+    /// The number of dequeues that found the queue empty.
     pub empty: usize,
-    /// The values that the queue holds before the first event.
+    /// The number of values that the queue holds before the first event.
     pub initial: usize,
-    /// The events that are of another thread than the event before.
+    /// The number of events that are of another thread than the event before.
     pub thread_changes: usize,
-    /// The operations that overlap another one.
+    /// The number of operations that overlap another one.
     pub overlapping: usize,
-    /// The share of these among the operations in tenths of a percent, rounded down; 0 of no operations.
+    /// The share of these operations in tenths of a percent, rounded down; 0 without operations.
     pub overlapping_tenths: usize,
-    /// The most operations that were pending at once.
+    /// The maximum number of operations pending at once.
     pub most_pending: usize,
-    /// The most values that were definitely in the queue at once.
+    /// The maximum number of values that were definitely in the queue at once.
     pub most_queued: usize,
-    /// The dequeues that certainly overtook a value: one that was enqueued before theirs, and dequeued after it or never.
+    /// The number of dequeues that certainly overtook a value: one that was enqueued before theirs, and dequeued
+    /// after it or never.
     pub overtakes: usize,
-    /// The most values that one dequeue certainly overtook.
+    /// The maximum number of values that one dequeue certainly overtook.
     pub overtaken_at_most: usize,
-    /// Of the failed enqueues, the least of the most values that may have been in the queue at once during the call; if no
-    /// enqueue failed, none.
+    /// The minimum, over the failed enqueues, of the maximum number of values that may have been in the queue at once
+    /// during the call; none if no enqueue failed.
     pub refused_at: Option<usize>,
 }
 
-/// Returns the events of a history, in a list of their own.
+/// Returns the events of a history in a list of their own.
 fn listed_events(alloc: Global, history: &History) -> Result<Vec<Event>, AllocError>
     ensures listed { IfOk result (λ events. events.items ≡ history.now.events) }
     ensures complete { IsCompleteHistory history.now.events }
@@ -62,8 +63,8 @@ fn listed_events(alloc: Global, history: &History) -> Result<Vec<Event>, AllocEr
 
 /// Computes the statistics of a history.
 ///
-/// `AllocError` comes only if memory runs out. Takes time O(n log n) for n events and initial values, and memory in
-/// proportion to them.
+/// The only error is out of memory. Takes O(n log n) time for n events and initial values, and memory in proportion
+/// to them.
 pub fn statistics_of(alloc: Global, history: &History) -> Result<Statistics, AllocError>
     ensures { IfOk result (AreStatisticsOf history.now) }
 {

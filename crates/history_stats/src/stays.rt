@@ -1,4 +1,4 @@
-//! When values were enqueued, and when they were first dequeued.
+//! The times at which values were enqueued and first dequeued.
 ghost use Rattle.std.specs.Prelude.{◌≡◌, ◌≤◌, ◌<◌, ◌||◌, ◌&&◌, ◌==◌, ℕ, All, IfOk, IfSome, List, OnOk, filter_map, false, length, map, nat_lt, vec_len};
 ghost use Rattle.std.specs.List.Sorted.{IsNonDecreasing, IsNonDecreasingBy};
 ghost use Rattle.std.specs.Option.{option_map_or};
@@ -13,17 +13,18 @@ use history_merge::{OpKind, Operation, PackedOperation};
 use std::alloc::{AllocError, Global};
 use std::collections::BTreeMap;
 
-/// When the enqueue of a value returned, and how many operations had been called when the first dequeue of it was.
+/// The ticket at which the enqueue of a value returned, and the number of operations called before the first dequeue
+/// of it.
 #[derive(Clone, Copy)]
 pub(crate) struct Stay {
     pub(crate) put: u64,
-    /// All operations, if it was never dequeued.
+    /// The number of all operations, if the value was never dequeued.
     pub(crate) taken: usize,
 }
 
 /// Returns the stays of all values, in the order in which their enqueues returned.
 ///
-/// Takes time O(n log n) for n operations, and memory in proportion to them.
+/// Takes O(n log n) time for n operations, and memory in proportion to them.
 pub(crate) fn stays_of(
     alloc: Global,
     operations: &[PackedOperation],
@@ -42,7 +43,7 @@ pub(crate) fn stays_of(
     Ok(stays)
 }
 
-/// Returns for each value that a dequeue gave the ticket at which the first such dequeue was called.
+/// Returns for each dequeued value the ticket at which the first dequeue of it was called.
 fn first_takes(
     alloc: Global,
     operations: &[PackedOperation],
@@ -56,7 +57,7 @@ fn first_takes(
     Ok(takes)
 }
 
-/// Keeps the call of an operation for the value that it gave, if it gave one and no lower ticket is kept for it.
+/// Keeps the call of an operation for the value that it dequeued, if it did and no lower ticket is kept.
 fn keep_take(takes: &mut BTreeMap<u64, u64>, operation: Operation) -> Result<(), AllocError>
     ensures { OnOk result ((gap v : ℕ) → is_kept_before gap takes.new v
         ≡ (is_kept_before gap takes.old v || (gave v operation.kind && nat_lt operation.call gap))) }
@@ -95,7 +96,7 @@ fn all_stays(
     Ok(stays)
 }
 
-/// Returns how many of the calls come before the ticket at which a value was taken: all, if it never was.
+/// Returns the number of calls before the ticket at which a value was taken; all calls if it never was.
 fn calls_before_take(calls: &[u64], take: Option<u64>) -> usize
     requires { IsNonDecreasing calls.now }
     ensures { result ≡ option_map_or (λ t. count_before t calls.now) take (length calls.now) }

@@ -12,7 +12,7 @@ use history_merge::{OpKind, Operation, PackedOperation};
 use std::alloc::{AllocError, Global};
 use std::collections::BTreeMap;
 
-/// A dequeue of a value that was enqueued: the call of that enqueue, its own call and return, and the value.
+/// A dequeue of an enqueued value: the call of that enqueue, its own call and return, and the value.
 #[derive(Clone, Copy)]
 pub(crate) struct Taking {
     pub(crate) enqueue_call: u64,
@@ -21,9 +21,9 @@ pub(crate) struct Taking {
     pub(crate) value: u64,
 }
 
-/// Returns the dequeues of values that were enqueued, in the order in which those enqueues were called.
+/// Returns the dequeues of enqueued values, in the order in which those enqueues were called.
 ///
-/// Takes time O(n log n) for n operations, and memory in proportion to them.
+/// Takes O(n log n) time for n operations, and memory in proportion to them.
 pub(crate) fn takings_of(
     alloc: Global,
     operations: &[PackedOperation],
@@ -37,7 +37,7 @@ pub(crate) fn takings_of(
     Ok(takings)
 }
 
-/// Returns for each value that was enqueued the ticket at which its enqueue was called.
+/// Returns for each enqueued value the ticket at which its enqueue was called.
 fn enqueue_calls(
     alloc: Global,
     operations: &[PackedOperation],
@@ -51,7 +51,7 @@ fn enqueue_calls(
     Ok(calls)
 }
 
-/// Keeps the call of an operation for the value that it put into the queue, if it put one and no ticket is kept for it.
+/// Keeps the call of an operation for the value that it enqueued, if it did and no ticket is kept.
 fn keep_enqueue(calls: &mut BTreeMap<u64, u64>, operation: Operation) -> Result<(), AllocError>
     ensures { OnOk result ((v : ℕ) → get nat_cmp calls.new v
         ≡ option_or (get nat_cmp calls.old v) (if put v operation.kind then Some operation.call else None)) }
@@ -62,7 +62,7 @@ fn keep_enqueue(calls: &mut BTreeMap<u64, u64>, operation: Operation) -> Result<
     }
 }
 
-/// Keeps the ticket for the value, if none is kept for it.
+/// Keeps the ticket for the value, unless one is kept.
 fn keep_first(kept: &mut BTreeMap<u64, u64>, value: u64, ticket: u64) -> Result<(), AllocError>
     ensures { OnOk result ((v : ℕ) → get nat_cmp kept.new v ≡ option_or (get nat_cmp kept.old v) (if nat_eq v value then Some ticket else None)) }
 {
@@ -72,7 +72,7 @@ fn keep_first(kept: &mut BTreeMap<u64, u64>, value: u64, ticket: u64) -> Result<
     Ok(())
 }
 
-/// Returns the dequeues of values that were enqueued, in the order of the operations.
+/// Returns the dequeues of enqueued values, in the order of the operations.
 fn all_takings(
     alloc: Global,
     operations: &[PackedOperation],
@@ -90,7 +90,7 @@ fn all_takings(
     Ok(takings)
 }
 
-/// Returns the dequeue of an enqueued value that the operation is, if it is one.
+/// Returns the operation as a dequeue of an enqueued value, if it is one.
 fn taking_by(enqueue_calls: &BTreeMap<u64, u64>, operation: Operation) -> Option<Taking>
     ensures { (operations : List Operation) → AreEnqueueCalls operations enqueue_calls.now → result ≡ taking_by operations operation operation.kind }
 {

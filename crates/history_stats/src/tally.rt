@@ -1,4 +1,4 @@
-//! Numbers counted in blocks, so that those below another one are counted in a few steps.
+//! Numbers counted in blocks, so that those below a given one are counted in a few steps.
 ghost use Rattle.std.specs.Prelude.{◌≡◌, ◌+◌, ◌<◌, ◌≤◌, ◌++◌, ◌∷◌, ◌^◌, [], ℕ, IfOk, List, count_by, length, nat_lt, replicate, slice_index_or, slice_set};
 ghost use Rattle.history_stats.specs.Inner.Tally.{HasRoomFor, IsTally};
 
@@ -60,14 +60,14 @@ impl Level {
 
 /// Numbers up to a limit, counted in blocks of 1, 2, 4, .. numbers: level k counts those in each block of `2^k`.
 ///
-/// A number is added, and those below another one are counted, in time O(log n) for the limit n.
+/// Adding a number, and counting those below a given one, take O(log n) time for the limit n.
 #[derive(Drop)]
 pub(crate) struct Tally {
     levels: Vec<Level>,
 }
 
 impl Tally {
-    /// Makes a tally of no numbers. Memory in proportion to the limit.
+    /// Makes a tally of no numbers. Takes memory in proportion to the limit.
     pub(crate) fn new(alloc: Global, limit: usize) -> Result<Tally, AllocError>
         requires { limit < 2 ^ 62 }
         ensures { IfOk result (λ tally. IsTally limit [] tally.levels.items) }

@@ -1,4 +1,4 @@
-//! How statistics are written.
+//! Writing statistics.
 ghost use Rattle.std.specs.Prelude.{◌≡◌, ◌+◌, ◌≤◌, ◌++◌, decimal, length, []};
 ghost use Rattle.std.specs.Option.{option_map_or};
 ghost use Rattle.text_lines.specs.Writing.{Writes};
@@ -8,7 +8,7 @@ use crate::overtaking::Overtaking;
 use crate::statistics::Statistics;
 use text_lines::{TextSink, WriteBuffer, WriteFault, write_piece};
 
-/// Writes the lines of statistics, each a name, a space and a value. It doesn't flush the writer.
+/// Writes the lines of statistics, each a name, a space and a value. The writer isn't flushed.
 pub fn write_statistics<W: TextSink>(
     statistics: &Statistics,
     writer: &mut W,
@@ -20,8 +20,8 @@ pub fn write_statistics<W: TextSink>(
     write_piece(kept.as_slice(), writer)
 }
 
-/// Writes a line for each dequeue that overtook values: their count, the ticket of its call and its value. It doesn't
-/// flush the writer.
+/// Writes a line for each dequeue that overtook values: their number, the ticket of its call and its value. The
+/// writer isn't flushed.
 pub fn write_overtakings<W: TextSink>(
     overtakings: &[Overtaking],
     writer: &mut W,
@@ -37,7 +37,7 @@ pub fn write_overtakings<W: TextSink>(
     Ok(())
 }
 
-/// Adds the line of an overtaking.
+/// Appends the line of an overtaking.
 fn push_overtaking(kept: &mut WriteBuffer, overtaking: Overtaking)
     requires { kept.old ≡ [] }
     ensures { kept.new ≡ overtaking_line overtaking }
@@ -50,7 +50,7 @@ fn push_overtaking(kept: &mut WriteBuffer, overtaking: Overtaking)
     kept.push(b"\n");
 }
 
-/// Adds all lines.
+/// Appends all lines.
 fn push_statistics(kept: &mut WriteBuffer, statistics: &Statistics)
     requires { kept.old ≡ [] }
     ensures { kept.new ≡ statistics_text statistics.now }
@@ -73,7 +73,7 @@ fn push_statistics(kept: &mut WriteBuffer, statistics: &Statistics)
     push_known_line(kept, b"refused-at", statistics.refused_at);
 }
 
-/// Adds the line of a number.
+/// Appends the line of a number.
 fn push_line(kept: &mut WriteBuffer, name: &[u8], value: usize)
     requires room { length kept.old + 64 ≤ 4096 }
     requires short_name { length name.now ≤ 20 }
@@ -86,7 +86,7 @@ fn push_line(kept: &mut WriteBuffer, name: &[u8], value: usize)
     kept.push(b"\n");
 }
 
-/// Adds the line of a number, if there is one.
+/// Appends the line of a number, if there is one.
 fn push_known_line(kept: &mut WriteBuffer, name: &[u8], value: Option<usize>)
     requires room { length kept.old + 64 ≤ 4096 }
     requires short_name { length name.now ≤ 20 }
@@ -97,7 +97,7 @@ fn push_known_line(kept: &mut WriteBuffer, name: &[u8], value: Option<usize>)
     }
 }
 
-/// Adds the line of a number of tenths.
+/// Appends the line of a number of tenths.
 fn push_tenths_line(kept: &mut WriteBuffer, name: &[u8], tenths: usize)
     requires room { length kept.old + 64 ≤ 4096 }
     requires short_name { length name.now ≤ 20 }

@@ -1,4 +1,4 @@
--- What is taken from the buffer of a reader.
+-- Bytes taken from the buffer of a reader.
 use Rattle.history_text.proofs.Common.{[], Ahead, ap, append_assoc, arith, common_steps, drop, drop-drop, EndOfInput}
 use Rattle.history_text.proofs.Common.{after, Exactly, Gives, Known, Left, MayBeLeft, over, subst, sym}
 use Rattle.history_text.proofs.Common.{HasMore, IsOver, IsOverIf, length, length-append, length-drop}
@@ -15,7 +15,7 @@ use Rattle.history_text.proofs.Consuming.{nothing_left, takes_front, takes_read}
 abbrev pub part : List ℕ → ℕ → ℕ → List ℕ
 part bytes at filled = take (filled - at) (drop at bytes)
 
--- text that stands at a place, and ends within what is filled
+-- a text at a place, which ends within the filled part
 part_splits : (bytes : List ℕ) (at filled len : ℕ) (text : List ℕ) → len ≤ filled - at → filled ≤ length bytes
     → drop at bytes ≡ text ++ drop len (drop at bytes) → part bytes at filled ≡ text ++ part bytes (at + len) filled
 part_splits bytes at filled len text within fits is =
@@ -26,11 +26,11 @@ part_splits bytes at filled len text within fits is =
     omega (arith, long, length-drop len rest, length-drop at bytes, within, fits) in
     ap (λ (r : List ℕ). take (filled - at) r) is ∙ rw (count, take-append-add, drop-drop) refl
 
--- what is left where a buffer is filled up to a place
+-- what is left of a buffer that is filled up to this place
 abbrev left_in : List ℕ → ℕ → ℕ → Known → Left
 left_in bytes at filled behind = record { front = part bytes at filled; behind = behind }
 
--- text at a place of the buffer is taken
+-- a text at a place of the buffer is taken
 pub takes_from_buffer : (bytes : List ℕ) (at filled len room : ℕ) (text : List ℕ) (behind : Known) → len ≤ filled - at → filled ≤ length bytes
     → length bytes ≤ at + room → take room (drop at bytes) ≡ text ++ drop len (take room (drop at bytes))
     → Takes (left_in bytes at filled behind) (left_in bytes (at + len) filled behind) text
@@ -40,7 +40,7 @@ takes_from_buffer bytes at filled len room text behind within fits all is =
     subst (λ (front : List ℕ). Takes (record { front = front; behind = behind }) (left_in bytes (at + len) filled behind) text) (sym splits)
     (takes_front text (part bytes (at + len) filled) behind)
 
--- what stands at a place, and what comes after it
+-- the byte at a place, and those after it
 byte_at : (bytes : List ℕ) (at : ℕ) → at < length bytes → drop at bytes ≡ slice_index_or bytes at 0 ∷ drop 1 (drop at bytes)
 byte_at [] at within = absurd (omega (arith, within))
 byte_at (b ∷ bytes) zero within = refl
@@ -54,7 +54,7 @@ takes_byte bytes at filled behind some fits =
     takes_from_buffer bytes at filled 1 (length bytes) (slice_index_or bytes at 0 ∷ []) behind (omega (arith, some)) fits (omega arith)
     (rw whole (byte_at bytes at (omega (arith, some, fits))))
 
--- where nothing is left of a buffer, what a read gives is left, and nothing is taken
+-- if nothing is left of a buffer, what a read gives is left, and nothing is taken
 pub read_anew : (bytes more : List ℕ) (at filled n : ℕ) (old new : Known) → filled ≤ at → Gives old new (take n more)
     → Takes (left_in bytes at filled old) (left_in more 0 n new) []
 read_anew bytes more at filled n old new none gives =
@@ -71,7 +71,7 @@ pub has_more_in_buffer : (bytes : List ℕ) (at filled : ℕ) (behind : Known) �
 has_more_in_buffer bytes at filled behind some within a may =
     subst HasMore (sym may.2) (has_more_behind (part bytes at filled) may.0 (grind (arith, length-take-le, length-drop)))
 
--- whether a read gave a byte says whether the input is over
+-- the input is over if and only if a read gave no byte
 pub over_if_nothing : (behind : Known) (n : ℕ) (bytes : List ℕ) → n ≤ length bytes → (n ≡ 0 → behind ≡ Exactly (over EndOfInput))
     → IsOverIf (left_in bytes 0 n behind) (not (nat_lt 0 n))
 over_if_nothing behind zero bytes within ends =
@@ -79,7 +79,7 @@ over_if_nothing behind zero bytes within ends =
 over_if_nothing behind (suc n) bytes within ends =
     let some : nat_lt 0 (suc n) ≡ true = grind (arith, nat_tests) in rw some (has_more_in_buffer bytes 0 (suc n) behind (omega arith) within)
 
--- the bytes that are left, moved to the front, and those of a read after them: nothing is taken
+-- moving the bytes that are left to the front, and reading after them, takes nothing
 pub moved_and_read : (bytes more : List ℕ) (at filled n : ℕ) (old new : Known) → at ≤ filled → filled ≤ length bytes
     → take (filled - at) more ≡ take (filled - at) (paste bytes 0 (drop at bytes) (filled - at)) → Gives old new (take n (drop (filled - at) more))
     → Takes (left_in bytes at filled old) (left_in more 0 (filled - at + n) new) []

@@ -1,4 +1,4 @@
--- From a fault of one line to the first fault of the whole input, and what is read of a text that stands at its front.
+-- From the fault of one line to the first fault of the whole input, and reading a text that the input begins with.
 use Rattle.history_text.proofs.Common.{[], Ahead, All-from_recursion, All-push, AllByRecursion, ap, append-nil}
 use Rattle.history_text.proofs.Common.{after, Left, MayBeLeft, OfLeft, over}
 use Rattle.history_text.proofs.Common.{append_assoc, arith, BeginsWith, BrokenLineFault, bytes_eq}
@@ -33,7 +33,7 @@ then_err r f fault is = ap (λ q. q >>= f) is
 
 -- ---- the first line
 
--- the value that has these bytes as its line
+-- the value whose line has these bytes
 abbrev pub value_with : {A : Type 0} → List (A × List ℕ) → TextFault → List ℕ → List ℕ → Result (A × List ℕ) TextFault
 value_with [] other bytes rest = Err other
 value_with (row ∷ rows) other bytes rest =
@@ -46,7 +46,7 @@ first_at rows other ending TooLong = Err other
 first_at rows other ending Unfinished = Err (fault_at ending)
 first_at rows other ending Nothing = Err (fault_at ending)
 
--- such a line is read
+-- a line that is one of these is read
 pub first_read : {A : Type 0} (rows : List (A × List ℕ)) (other : TextFault) (ending : Ending) (value : A) (bytes rest : List ℕ)
     → has_no_line_feed bytes ≡ true → length bytes ≤ 80 → value_with rows other bytes rest ≡ Ok (value, rest)
     → first_at rows other ending (front_of (line bytes ++ rest)) ≡ Ok (value, rest)
@@ -65,7 +65,7 @@ none_with (row ∷ rows) other bytes rest none =
 abbrev listed : {A : Type 0} → List A → List ℕ → Result (List A × List ℕ) TextFault
 listed xs rest = Ok (xs, rest)
 
--- the items after an item, or none at their end
+-- an optional item before others
 abbrev onward : {A : Type 0} → Option A → List ℕ → Result (List A × List ℕ) TextFault → Result (List A × List ℕ) TextFault
 onward None rest later = listed [] rest
 onward (Some x) rest later = later >>= λ more. listed (x ∷ more.0) more.1
@@ -75,7 +75,7 @@ with_first : {A : Type 0} (x : A) (xs : List A) (last : Result (List ℕ) TextFa
 with_first x xs (Ok rest) = refl
 with_first x xs (Err f) = refl
 
--- a step says what the next line is: an item, or the end of the items
+-- a step that reads the next item, or the end of the items
 module _ {A : Type 0} (step : ℕ → List ℕ → Result (Option A × List ℕ) TextFault) where
   -- the items from the k-th on, and the bytes after them
   unfoldable pub items_from : ℕ → ℕ → List ℕ → Result (List A × List ℕ) TextFault
@@ -91,7 +91,7 @@ module _ {A : Type 0} (step : ℕ → List ℕ → Result (Option A × List ℕ)
   ends_here most k (Ok rest) = refl
   ends_here most k (Err f) = refl
 
-  -- if each item's line is read, some are read up to what ends them
+  -- some items are read, up to what ends them, if the line of each is read
   pub items_read : (format : Format A) (limit most k i : ℕ) (xs : List A) (r : List ℕ) (last : Result (List ℕ) TextFault)
       → ((j : ℕ) (x : A) (rest : List ℕ) → format.HasLine x → j < limit → step j (line_of format x ++ rest) ≡ Ok (Some x, rest))
       → AllByRecursion format.HasLine xs → i ≡ k + length xs → i ≤ limit → length xs < most
@@ -109,7 +109,7 @@ module _ {A : Type 0} (step : ℕ → List ℕ → Result (Option A × List ℕ)
       ∙ ap (λ found. found >>= λ next. onward next.0 next.1 (items_from most (k + 1) next.1)) (back k x rest all.0 (omega (arith, i_is, few)))
       ∙ ap (λ later. onward (Some x) rest later) more ∙ with_first x xs last
 
--- ---- items to a last line, or to the end of the input
+-- ---- items up to a last line, or to the end of the input
 
 module _ {A : Type 0} (format : Format A) where
   -- the items from line n on
@@ -117,7 +117,7 @@ module _ {A : Type 0} (format : Format A) where
   items_in n ending bytes = items_from (λ k b. item_at_front format (n + k) k ending (front_of b)) (suc format.most) 0 bytes
 
   module _ (back : IsReadBack format) (n : ℕ) (ending : Ending) where
-    -- items are read up to what ends them
+    -- all items are read, up to what ends them
     pub all_read : (xs : List A) (r rest : List ℕ) → HaveLines format xs
         → item_at_front format (n + length xs) (length xs) ending (front_of r) ≡ Ok (None, rest)
         → items_in n ending (lines_of format xs ++ r) ≡ Ok (xs, rest)
@@ -135,21 +135,21 @@ module _ {A : Type 0} (format : Format A) where
         (all_read xs (end_line (length xs) ++ rest) rest right
         (end_front format (n + length xs) (length xs) ending rest counted (omega (arith, few, small))))
 
-    -- their first fault is found
+    -- the first fault of the items is found
     pub fault_found : (fault : TextFault) (bytes : List ℕ) → ItemFault format n ending fault bytes → items_in n ending bytes ≡ Err fault
     fault_found fault bytes h =
         let few = h.right.few in
         rw h.front (items_read (λ k b. item_at_front format (n + k) k ending (front_of b)) format format.most (suc format.most) 0 (length h.items)
         h.items h.rest (Err fault) (λ k x more. back (n + k) k ending x more) h.right.each (omega arith) few (omega (arith, few)) h.next)
 
-  -- ---- as many items as were told
+  -- ---- as many items as were counted
 
-  -- the next of this many items, or their end
+  -- the next of these items, or their end
   abbrev next_among : ℕ → ℕ → Ending → ℕ → List ℕ → Result (Option A × List ℕ) TextFault
   next_among many n ending k bytes =
       if nat_lt k many then (line_at_front format.read (n + k) ending (front_of bytes) >>= λ said. Ok (Some said.0, said.1)) else Ok (None, bytes)
 
-  -- this many items from line n on
+  -- the items, as many as were counted, from line n on
   abbrev pub among_in : ℕ → ℕ → Ending → List ℕ → Result (List A × List ℕ) TextFault
   among_in many n ending bytes = items_from (next_among many n ending) (suc many) 0 bytes
 
@@ -159,7 +159,7 @@ module _ {A : Type 0} (format : Format A) where
     next_read many k x rest has more =
         let here : nat_lt k many ≡ true = grind (arith, nat_tests, more) in rw (here, says x has (n + k) ending rest) refl
 
-    -- they are read
+    -- the items are read
     pub among_read : (xs : List A) (r : List ℕ) → AllByRecursion format.HasLine xs
         → among_in (length xs) n ending (lines_of format xs ++ r) ≡ Ok (xs, r)
     among_read xs r all =
@@ -167,7 +167,7 @@ module _ {A : Type 0} (format : Format A) where
         items_read (next_among (length xs) n ending) format (length xs) (suc (length xs)) 0 (length xs) xs r (Ok r) (next_read (length xs)) all
         (omega arith) (omega arith) (omega arith) (rw over refl)
 
-    -- their first fault is found
+    -- the first fault of the items is found
     pub among_found : (many : ℕ) (fault : TextFault) (bytes : List ℕ) → FaultAmong format many n ending fault bytes
         → among_in many n ending bytes ≡ Err fault
     among_found many fault bytes h =
@@ -178,13 +178,13 @@ module _ {A : Type 0} (format : Format A) where
 
 -- ---- whole texts
 
--- an input is judged so: a text at its front is read, where such may follow it, and a first fault is found
+-- how an input is judged: a text that it begins with is read, if such bytes may follow, and a first fault is found
 pub record IsJudged {T : Type 0} (HasIt : T → Type 0) (text : T → List ℕ) (MayFollow : Ending → List ℕ → Type 0)
     (IsFault : ℕ → Ending → List ℕ → TextFault → Type 0) (judge : ℕ → Ending → List ℕ → Result (T × List ℕ) TextFault) : Type 0 where
   pub read : (lines : ℕ) (ending : Ending) (t : T) (rest : List ℕ) → HasIt t → MayFollow ending rest → judge lines ending (text t ++ rest) ≡ Ok (t, rest)
   pub found : (lines : ℕ) (ending : Ending) (bytes : List ℕ) (fault : TextFault) → IsFault lines ending bytes fault → judge lines ending bytes ≡ Err fault
 
--- whatever may be left, these bytes stand at its front, and what comes after them is so
+-- the input that is left begins with these bytes, and such bytes follow
 abbrev pub Stands : (Ending → List ℕ → Type 0) → Left → List ℕ → Type 0
 Stands MayFollow left text = (a : Ahead) → MayBeLeft left a → (rest : List ℕ) × (a.bytes ≡ text ++ rest) × MayFollow a.ending rest
 
@@ -198,23 +198,23 @@ stands old text begins = λ a may. let here = begins a may in (here.0, here.1, t
 module _ {T : Type 0} {HasIt : T → Type 0} {text : T → List ℕ} {MayFollow : Ending → List ℕ → Type 0}
     {IsFault : ℕ → Ending → List ℕ → TextFault → Type 0} {judge : ℕ → Ending → List ℕ → Result (T × List ℕ) TextFault}
     (judged : IsJudged HasIt text MayFollow IsFault judge) where
-  -- two texts at the front of one input are one text
+  -- texts that one input begins with are equal
   pub texts_agree : (ending : Ending) (s t : T) (q r : List ℕ) → HasIt s → HasIt t → MayFollow ending q → MayFollow ending r
       → text s ++ q ≡ text t ++ r → (s ≡ t) × (q ≡ r)
   texts_agree ending s t q r has_s has_t may_q may_r same =
       let both = sym (judged.read 0 ending s q has_s may_q) ∙ ap (judge 0 ending) same ∙ judged.read 0 ending t r has_t may_r in grind (arith, both)
 
-  -- a text that stands at the front has no fault
+  -- an input that begins with a text has no fault
   pub text_has_no_fault : (lines : ℕ) (ending : Ending) (t : T) (r : List ℕ) (fault : TextFault) → HasIt t → MayFollow ending r
       → IsFault lines ending (text t ++ r) fault → ⊥
   text_has_no_fault lines ending t r fault has may h = grind arith
 
-  -- an input has one first fault
+  -- an input has only one first fault
   pub one_first_fault : (lines : ℕ) (ending : Ending) (bytes : List ℕ) (f g : TextFault) → IsFault lines ending bytes f
       → IsFault lines ending bytes g → f ≡ g
   one_first_fault lines ending bytes f g h k = grind arith
 
-  -- a text that stands there is read, unless memory runs out
+  -- a text that the input begins with is read, unless memory runs out
   pub reads_what_is_there : {V : Type 0} (LacksRoom : List ℕ → Type 0) (P : V → Type 0) (Told : V → T → Type 0) (lines : ℕ) (old new : Left)
       (r : Result V TextFault) → IfOk r P → IfErr r (HasFirstFault (IsFault lines) LacksRoom old)
       → ((v : V) → P v → (t : T) × HasIt t × Takes old new (text t) × ((b : Ahead) → MayBeLeft new b → MayFollow b.ending b.bytes) × Told v t)
@@ -234,9 +234,9 @@ module _ {T : Type 0} {HasIt : T → Type 0} {text : T → List ℕ} {MayFollow 
             absurd (text_has_no_fault lines err.input.ending t here.0 fault has here.2 (rw here.1 at known))
       ]
 
--- ---- what the line ahead is, by what was taken of it and by what its fields say
+-- ---- the next line, by what was taken and by its fields
 
--- what holds of the front of the input
+-- a property of the front of the input
 abbrev pub AtFront : Left → (Ending → Front → Type 0) → Type 0
 AtFront old P = OfLeft old (λ a. P a.ending (front_of a.bytes))
 
@@ -268,14 +268,14 @@ pub at_line : (P : Ending → Front → Type 0) (old new : Left) (bytes : List �
 at_line P old new bytes taken part holds =
     before old new (line bytes) (λ e r. P e (front_of r)) taken (λ e more. subst (P e) (sym (whole bytes more part)) (holds e more))
 
--- where no line is whole there is none
+-- if no line is whole, there is none
 pub no_line : (long : TextFault) (old : Left) (fault : TextFault) → FaultAtFront (BrokenLineFault long) old fault
     → FaultAtFront (NoLineFault long) old fault
 no_line long old fault h = let broken = h.is_so in record { input = h.input; may = h.may; is_so = grind (arith, broken) }
 
 -- ---- items
 
--- a line with a fault is that of the next item
+-- a line with a fault is the line of the next item
 pub items_faulty : {A : Type 0} (format : Format A) (n k : ℕ) (old new : Left) (bytes : List ℕ) (r : Result (Option A) TextFault)
     → Takes old new (line bytes) → IsPartOfLine bytes → r ≡ item_in format n k bytes
     → IfErr r (FaultAtFront (λ end fault front. item_at_front format n k end front ≡ Err fault) old)
@@ -306,7 +306,7 @@ pub first_is : (IsFault : Ending → List ℕ → TextFault → Type 0) (LacksRo
 first_is F L old Memory other h = absurd other
 first_is F L old fault other h = h
 
--- what holds of the input after a front holds of the whole
+-- a property of the input after a front, as one of the whole
 pub moved : (P Q : Ahead → Type 0) (old mid : Left) (front : List ℕ) → Takes old mid front → ((a : Ahead) → P a → Q (after front a))
     → OfLeft mid P → OfLeft old Q
 moved P Q old mid front taken step h = record { input = after front h.input; may = taken.before h.input h.may; is_so = step h.input h.is_so }
@@ -319,7 +319,7 @@ pub line_fault : (P : ℕ → Ending → List ℕ → TextFault → Type 0) (Q :
 line_fault P Q L n m old mid front fault same of_input taken step h = first_is Q L old fault of_input
     (moved (λ a. P m a.ending a.bytes fault) (λ a. Q a.ending a.bytes fault) old mid front taken (λ a. rw same (step a.ending a.bytes)) h)
 
--- a first fault of what follows a taken front, from line m on, is a first one of the whole input
+-- a first fault of what follows a taken front, from line m on, is the first of the whole input
 pub later_fault : (P : ℕ → Ending → List ℕ → TextFault → Type 0) (Q : Ending → List ℕ → TextFault → Type 0) (L M : List ℕ → Type 0) (n m : ℕ)
     (old mid : Left) (front : List ℕ) (fault : TextFault) → m ≡ n → Takes old mid front
     → ((e : Ending) (r : List ℕ) (f : TextFault) → P n e r f → Q e (front ++ r) f) → ((r : List ℕ) → L r → M (front ++ r))
@@ -344,7 +344,7 @@ item_fault format items n m k old mid fault right count same of_input taken h =
       next = subst (λ (j : ℕ). item_at_front format (n + j) j e (front_of r) ≡ Err fault) count next;
     }) h
 
--- so is that of the line after fewer items than were told
+-- the fault of the line after fewer items than were counted is the first of their lines
 pub among_fault : {A : Type 0} (format : Format A) (many : ℕ) (items : List A) (n m : ℕ) (old mid : Left) (fault : TextFault)
     → AllByRecursion format.HasLine items → length items < many → m ≡ n + length items → IsOfInput fault → Takes old mid (lines_of format items)
     → FaultAtFront (λ end f front. line_at_front format.read m end front ≡ Err f) mid fault → HasFaultAmong format many n old fault
@@ -355,7 +355,7 @@ among_fault format many items n m old mid fault each fewer same of_input taken h
 
 -- ---- one more item
 
--- one item more, if there is room for it
+-- one more item, if there is room for it
 pub HaveLines-push : {A : Type 0} (format : Format A) (items : List A) (x : A) → HaveLines format items → format.HasLine x → length items < format.most
     → HaveLines format (items ++ x ∷ [])
 HaveLines-push format items x right last few =
@@ -367,7 +367,7 @@ pub takes_item : {A : Type 0} (format : Format A) (items : List A) (x : A) (old 
 takes_item format items x old mid new h k =
     rw (flat_map-append (line_of format) items (x ∷ []), append-nil (line_of format x)) (Takes-append old mid new _ _ h k)
 
--- one item more than there is room for, of as many as were told
+-- one more item than there is room for, among those that were counted
 pub no_room_among : {A : Type 0} (format : Format A) (k : ℕ) (items : List A) (x : A) (old mid new : Left) → HaveLines format items
     → Takes old mid (lines_of format items) → length items < k → k ≤ format.most → format.HasLine x → Takes mid new (line_of format x)
     → OfLeft old (λ a. NoRoomAmong format k a.bytes)
@@ -388,7 +388,7 @@ no_room_among format k items x old mid new right taken fewer most has now =
       };
     }
 
--- one item more than there may be
+-- one more item than there may be
 pub no_room : {A : Type 0} (format : Format A) (items : List A) (x : A) (old mid new : Left) → HaveLines format items
     → Takes old mid (lines_of format items) → length items < format.most → format.HasLine x → Takes mid new (line_of format x)
     → OfLeft old (λ a. NoRoom format a.bytes)
@@ -396,16 +396,16 @@ no_room format items x old mid new right taken few range now =
     let lacks = no_room_among format format.most items x old mid new right taken few (omega arith) range now in
     record { input = lacks.input; may = lacks.may; is_so = lacks.is_so.room }
 
--- ---- answers
+-- ---- results
 
--- a `?` that carries a fault on answers that fault
+-- a fault passed on by `?` is the result
 pub carries : {T E : Type 0} (r : Result T E) (fault : E) → IsErrAnd r (λ y. y ≡ fault) → r ≡ Err fault
 carries (Ok x) fault is = absurd is
 carries (Err y) fault is = cc
 
 -- ---- histories of either version: the first line
 
--- another line is that of none
+-- another line is the first of no version
 pub other_version : (old new : Left) (bytes : List ℕ) → Takes old new (line bytes) → IsPartOfLine bytes
     → ((version : Version) → bytes ≡ header_of version → ⊥) → FaultAtFront NoVersionFault old Header
 other_version old new bytes taken part other =
@@ -415,7 +415,7 @@ other_version old new bytes taken part other =
 
 -- ---- histories of either version: the events
 
--- a line after those before the events has it
+-- the fault of a line after those before the events is the first of the text
 pub event_is_first : (version : Version) (initial : List ℕ) (lines n : ℕ) (old mid : Left) (fault : TextFault)
     → n ≡ lines + count_before_events version initial + 1 → HaveValueLines version initial → Takes old mid (lines_before_events version initial)
     → HasItemsFault event_format n mid fault → HasTextFault lines old fault

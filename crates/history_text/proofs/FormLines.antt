@@ -1,4 +1,5 @@
--- Lines that are read by a table: what is written is read back, and what is read is spelled so. The thread in the line of an event.
+-- Lines parsed by a table: what is written is read back, and what is read is spelled in this way. The thread in the
+-- line of an event.
 use Rattle.history_text.proofs.Common.{[], a_value, all_digits, AllByRecursion, and_right, ap, AreOfForm, arith}
 use Rattle.history_text.proofs.Common.{begins_as_end, bytes_eq, claim_line_fields, claim_line_format, claim_line_in}
 use Rattle.history_text.proofs.Common.{ClaimLine, codes, count_fields, count_format, count_forms, count_in, decimal}
@@ -30,7 +31,7 @@ use Rattle.recorder_core.specs.declared.step.Step.TheVariants.{AskEnq, AskDeq, P
 use Rattle.event_records.specs.declared.kind.Answer.{Answer}
 use Rattle.event_records.specs.declared.kind.Answer.TheVariants as reply
 
--- ---- the first line, an item's and the last one, read from what is written of them, whatever comes after
+-- ---- the first line, the line of an item and the last line are read back, whatever comes after
 
 pub end_is_part : (k : ℕ) → k < 2 ^ 64 → IsPartOfLine (codes "end " ++ decimal k)
 end_is_part k small = grind (arith, field_is_clean, number_is_field, length-decimal-le)
@@ -41,14 +42,14 @@ pub end_front : {A : Type 0} (format : Format A) (n k : ℕ) (ending : Ending) (
 end_front format n k ending rest counted small =
     ap (item_at_front format n k ending) (whole (codes "end " ++ decimal k) rest (end_is_part k small)) ∙ rw (counted, end_read n k small) refl
 
--- ---- the line of an item, and the last line, as they are judged
+-- ---- parsing the line of an item, and the last line
 
 -- the last line counts the items before it
 pub last_line_ok : {A : Type 0} (format : Format A) (n k : ℕ) (bytes field : List ℕ) → k < 2 ^ 64 → (format.is_counted && begins_as_end bytes) ≡ true
     → field ≡ drop 4 bytes → Ok tt ≡ end_in n k field → IsItemLine format k bytes None
 last_line_ok format n k bytes field small last field_is e = grind (arith, end_ok, take-append-drop)
 
--- its fault is that of its number
+-- the fault of the last line is that of its number
 pub last_line_faulty : {A : Type 0} (format : Format A) (n k : ℕ) (bytes field : List ℕ) (fault : TextFault)
     → (format.is_counted && begins_as_end bytes) ≡ true → field ≡ drop 4 bytes → Err fault ≡ end_in n k field → Err fault ≡ item_in format n k bytes
 last_line_faulty format n k bytes field fault last field_is e = grind arith
@@ -58,21 +59,21 @@ pub item_line_ok : {A : Type 0} (format : Format A) (k : ℕ) (bytes : List ℕ)
     → IsItemLine format k bytes (Some item)
 item_line_ok format k bytes item few spelled = (ap line (sym (join_with_byte-slice_split 32 bytes) ∙ ap spaced spelled.text), spelled.line, few)
 
--- ---- lines that are read by a table
+-- ---- lines parsed by a table
 
--- these fields are a line, which is read as the item
+-- the fields are a line, which is read as this item
 pub record IsReadAs {A : Type 0} (read : ℕ → List (List ℕ) → Result A TextFault) (fields : List (List ℕ)) (item : A) : Type 0 where
   pub one : IsLineOf fields
   pub read_back : (n : ℕ) → read n fields ≡ Ok item
 
--- what holds of the numbers of a form, said of one after another
+-- a property of the numbers of a form, one number after another
 abbrev pub ForNumbers : List FieldForm → (List ℕ → Type 0) → Type 0
 ForNumbers [] P = P []
 ForNumbers (Word word ∷ forms) P = ForNumbers forms P
 ForNumbers (Number least greatest ∷ forms) P = (v : ℕ) → least ≤ v → v ≤ greatest → ForNumbers forms (λ vs. P (v ∷ vs))
 
 infixr 5 ◌&◌
--- what holds of a row, and of those after it
+-- a property of a row, and of those after it
 abbrev pub ◌&◌ : {A B : Type 0} → A → B → A × B
 p & q = (p, q)
 
@@ -84,7 +85,7 @@ of_numbers (Number least greatest ∷ forms) P each [] h = absurd h
 of_numbers (Number least greatest ∷ forms) P each (v ∷ vs) h = of_numbers forms (λ ws. P (v ∷ ws)) (each v h.0 h.1) vs h.2
 
 module _ {T A : Type 0} (table : Table T) (make : T → List ℕ → A) where
-  -- what a row of the table writes is read as what is made of it
+  -- what a row of the table writes is read back
   pub row_back : (what : T) (form : List FieldForm) (numbers : List ℕ) → list_all has_bits form ≡ true → is_line_form form ≡ true
       → ((n : ℕ) → parse_line n table (spelled form numbers) ≡ (numbers_in n form (spelled form numbers) >>= λ found. Ok (what, found)))
       → AreOfForm form numbers → IsReadAs (read_by table make) (spelled form numbers) (make what numbers)
@@ -94,7 +95,7 @@ module _ {T A : Type 0} (table : Table T) (make : T → List ℕ → A) where
         (finds n ∙ ap (λ (r : Result (List ℕ) TextFault). r >>= λ found. Ok (what, found)) (numbers_back n form numbers bits within));
   }
 
--- each row of a table writes the line of what is made of it
+-- each row of a table writes the line of its item
 pub record Spells {T A : Type 0} (format : Format A) (table : Table T) (make : T → List ℕ → A) : Type 0 where
   pub bits : list_all (λ row. list_all has_bits row.1) table ≡ true
   pub rows : AllByRecursion (λ row. ForNumbers row.1 (λ numbers. IsSpelled format (spelled row.1 numbers) (make row.0 numbers))) table
@@ -105,13 +106,13 @@ module _ {T A : Type 0} {format : Format A} {table : Table T} {make : T → List
   each_row [] all = tt
   each_row (row ∷ rows) all = grind (arith, of_numbers, each_row rows all.1)
 
-  -- what a line is judged as spells it
+  -- a line that is read spells what it is read as
   pub said_spelled : (n : ℕ) (fields : List (List ℕ)) (said : T × List ℕ) → parse_line n table fields ≡ Ok said
       → IsSpelled format fields (make said.0 said.1)
   said_spelled n fields said e =
       parse_line_says (λ what numbers f. IsSpelled format f (make what numbers)) n table fields said (each_row table spells.rows) spells.bits e
 
--- the line of each item is read back, wherever it stands
+-- the line of each item is read back, wherever it is
 abbrev pub IsReadBack : {A : Type 0} → Format A → Type 0
 IsReadBack {A} format = (n k : ℕ) (ending : Ending) (item : A) (rest : List ℕ) → format.HasLine item → k < format.most
     → item_at_front format n k ending (front_of (line_of format item ++ rest)) ≡ Ok (Some item, rest)
@@ -121,16 +122,16 @@ pub item_read : {A : Type 0} (format : Format A) → ((item : A) → format.HasL
     → IsReadBack format
 item_read format back n k ending item rest has few = grind (arith, and_right, whole)
 
--- this text is a line that says this, wherever it stands
+-- the text is a line that is read as this, wherever it is
 abbrev pub Says : {A : Type 0} → (ℕ → List (List ℕ) → Result A TextFault) → List ℕ → A → Type 0
 Says read text said = (n : ℕ) (ending : Ending) (rest : List ℕ) → line_at_front read n ending (front_of (text ++ rest)) ≡ Ok (said, rest)
 
--- a line that is read back says what it is read as
+-- a line that is read back is read as its item
 pub line_read : {A : Type 0} (read : ℕ → List (List ℕ) → Result A TextFault) (fields : List (List ℕ)) (said : A) → IsReadAs read fields said
     → Says read (line (spaced fields)) said
 line_read read fields said is n ending rest = grind (arith, whole)
 
--- ---- the lines of a history: what is read is spelled so, and what is written is read back
+-- ---- the lines of a history are spelled as they are read, and read back as they are written
 
 -- ---- the lines of initial values and of their count
 
@@ -139,25 +140,25 @@ pub blank_line : (bytes : List ℕ) → is_blank (fields_of bytes) ≡ (length b
 blank_line [] = refl
 blank_line (b ∷ bytes) = grind (arith, nat_tests, has_field bytes)
 
--- the field of a value is spelled as it is written
+-- the fields of a value are spelled as they are written
 pub value_spells : Spells value_format value_forms number_of
 value_spells = record { bits = refl; rows = (λ v _ few. record { text = refl; line = few }, tt) }
 
--- the fields of a count are spelled as it is written
+-- the fields of a count are spelled as they are written
 pub count_spells : Spells count_format count_forms number_of
 count_spells = record { bits = refl; rows = (λ k _ few. record { text = refl; line = few }, tt) }
 
 some_digits : (ds : List ℕ) → 0 < length ds → is_blank (ds ∷ []) ≡ false
 some_digits ds some = grind arith
 
--- the line of a value says that value
+-- the line of a value is read as that value
 pub value_says : (v : ℕ) → v ≤ greatest_value → Says value_in (line_of value_format v) v
 value_says v range =
     let is = row_back value_forms number_of tt (a_value ∷ []) (v ∷ []) refl refl (λ n. refl) (omega arith, range, tt) in
     let other : is_blank (value_fields v) ≡ false = some_digits (decimal v) (decimal_nonempty v (omega (arith, range))) in
     line_read value_in (value_fields v) v (record { one = is.one; read_back = λ n. rw other (is.read_back n) })
 
--- the line of a count says that count
+-- the line of a count is read as that count
 pub count_says : (k : ℕ) → k ≤ MAX_INITIAL → Says count_in (line (spaced (count_fields k))) k
 count_says k few =
     line_read count_in (count_fields k) k
@@ -169,7 +170,7 @@ event_row : (t th : ℕ) (what : What) → t ≤ MAX_TICKET → th ≤ MAX_THREA
     → IsSpelled event_format (decimal t ∷ decimal th ∷ what_fields what) (record { ticket = t; thread = th; what = what })
 event_row t th what a b range = record { text = refl; line = record { ticket = a; thread = b; value = range } }
 
--- the fields of an event are spelled as it is written
+-- the fields of an event are spelled as they are written
 pub event_spells : Spells event_format event_forms event_of
 event_spells = grind (arith, event_row)
 
@@ -189,25 +190,25 @@ module _ (t th : ℕ) (a : t ≤ MAX_TICKET) (b : th ≤ MAX_THREAD) where
 pub event_front : IsReadBack event_format
 event_front = item_read event_format (λ e range. event_back e.ticket e.thread range.ticket range.thread e.what range.value)
 
--- ---- the lines of a verdict: what is read is spelled so, and what is written is read back
+-- ---- the lines of a verdict are spelled as they are read, and read back as they are written
 
--- ---- what is read is spelled so
+-- ---- lines are spelled as they are read
 
 operation_row : (c r t : ℕ) (kind : OpKind) → c ≤ MAX_TICKET → r ≤ MAX_TICKET → t ≤ MAX_THREAD → IsKindInRange kind
     → IsSpelled operation_format (decimal c ∷ decimal r ∷ decimal t ∷ kind_fields kind) (record { call = c; ret = r; thread = t; kind = kind })
 operation_row c r t kind a b few range = record { text = refl; line = record { call = a; ret = b; thread = few; value = range } }
 
--- the fields of an operation are spelled as it is written
+-- the fields of an operation are spelled as they are written
 pub operation_spells : Spells operation_format operation_forms operation_of
 operation_spells = grind (arith, operation_row)
 
--- the fields of an initial value are spelled as it is written
+-- the fields of an initial value are spelled as they are written
 pub initial_spells : Spells claim_line_format initial_forms initial_of
 initial_spells = record { bits = refl; rows = (λ v _ range. record { text = refl; line = range }, tt) }
 
--- ---- what is written is read back
+-- ---- lines are read back as they are written
 
--- the lines of operations
+-- parsing the lines of operations
 abbrev read_operation : ℕ → List (List ℕ) → Result Operation TextFault
 read_operation n fields = read_by operation_forms operation_of n fields
 
@@ -256,15 +257,15 @@ operation_front = item_read operation_format (λ o range.
 step_row : (step : Step) → HasStepLine step → IsSpelled step_format (step_fields step) step
 step_row step range = record { text = refl; line = range }
 
--- the fields of a step are spelled as it is written
+-- the fields of a step are spelled as they are written
 pub step_spells : Spells step_format step_forms step_of
 step_spells = grind (arith, step_row)
 
--- the thread of a step that has a line
+-- the thread of a step with a line is in range
 pub thread_is_few : (step : Step) (t v : ℕ) → HasStepLine (step_with step t v) → t ≤ MAX_THREAD
 thread_is_few step t v h = grind arith
 
--- the fields of a setting are spelled as it is written
+-- the fields of a setting are spelled as they are written
 pub setting_spells : Spells setting_format setting_forms setting_of
 setting_spells = grind arith
 
@@ -298,7 +299,7 @@ step_back (Close t) few = plain_back t few (codes "close") (Close 0) refl (λ n.
 pub step_front : IsReadBack step_format
 step_front = item_read step_format step_back
 
--- the line of a setting says that setting
+-- the line of a setting is read as that setting
 pub setting_says : (threads ring : ℕ) → IsSetting threads ring → Says setting_in (line (spaced (setting_fields threads ring))) (threads, ring)
 setting_says threads ring within = line_read setting_in (setting_fields threads ring) (threads, ring)
     (row_back setting_forms setting_of tt setting_form (threads ∷ ring ∷ []) refl refl (λ n. refl)
@@ -306,11 +307,11 @@ setting_says threads ring within = line_read setting_in (setting_fields threads 
 
 -- ---- the thread in the line of an event, which has one or two digits
 
--- what a byte is above the digit 0, if it isn't below
+-- the digit of a byte, if it isn't below that of 0
 abbrev pub above_zero : ℕ → ℕ
 above_zero byte = (byte + 208) % 256
 
--- the byte at a place, and what comes after it
+-- the byte at a place, and those after it
 byte_then : (bytes : List ℕ) (at byte next : ℕ) → at < length bytes → get_or bytes at 0 ≡ byte → next ≡ at + 1
     → drop at bytes ≡ byte ∷ drop next bytes
 byte_then bytes at byte next within is next_is = rw (drop_more bytes at 0 within, is, next_is) refl

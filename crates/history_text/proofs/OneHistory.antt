@@ -1,4 +1,4 @@
--- Two texts of histories, of either version, at the front of one input are one, and an input has one first fault.
+-- Texts of histories, of either version, that one input begins with are equal, and an input has only one first fault.
 use Rattle.history_text.proofs.Common.{[], ap, append_assoc, arith, count_fields, count_in, Ending, Err, Event}
 use Rattle.history_text.proofs.Common.{event_format, FaultAfterHeader, Front, front_of, HasHistoryText, HasText}
 use Rattle.history_text.proofs.Common.{HaveLines, HaveValueLines, Header, header_of, HistoryText, inl, inr}
@@ -14,7 +14,7 @@ use Rattle.history_text.proofs.FirstFaults.{then_ok, then_err, first_at, first_r
 abbrev versions : List (Version × List ℕ)
 versions = (One, header_of One) ∷ (Two, header_of Two) ∷ []
 
--- what a text says, and the bytes after it
+-- the content of a text, and the bytes after it
 abbrev said : Version → List ℕ → List Event → List ℕ → Result (HistoryText × List ℕ) TextFault
 said version initial events rest = Ok (record { version = version; initial = initial; events = events }, rest)
 
@@ -22,11 +22,11 @@ said version initial events rest = Ok (record { version = version; initial = ini
 abbrev events_in : Version → List ℕ → ℕ → Ending → List ℕ → Result (HistoryText × List ℕ) TextFault
 events_in version initial n ending bytes = items_in event_format n ending bytes >>= λ es. said version initial es.0 es.1
 
--- as many initial values as were told, and the events
+-- the initial values, as many as were counted, and the events
 abbrev values_in : ℕ → ℕ → Ending → List ℕ → Result (HistoryText × List ℕ) TextFault
 values_in k n ending bytes = among_in value_format k n ending bytes >>= λ values. events_in Two values.0 (n + k) ending values.1
 
--- what comes after the first line, from line n on
+-- the lines after the first, from line n on
 abbrev after_header : Version → ℕ → Ending → List ℕ → Result (HistoryText × List ℕ) TextFault
 after_header One n ending bytes = events_in One [] n ending bytes
 after_header Two n ending bytes =
@@ -94,7 +94,7 @@ found lines ending bytes fault (inl h) =
     then_err _ _ _ (no_version ending fault (front_of bytes) h)
 found lines ending bytes fault (inr (version, (rest, is, h))) = grind (arith, version_then, later_found)
 
--- so an input is judged
+-- so the input is judged in this way
 pub judged : IsJudged HasText text_of Anything IsTextFault history_in
 judged = record {
   read = λ lines ending t rest has _. text_read lines ending t.version t.initial t.events rest has.initial has.events;

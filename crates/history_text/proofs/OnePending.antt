@@ -1,4 +1,4 @@
--- An input is read as one text whose calls may be pending, or as what comes of one before it ends, or it has one first fault.
+-- An input is read as one text in which calls may be pending, as a part of one, or has one first fault.
 use Rattle.history_text.proofs.Common.{[], Ahead, ap, append-nil, append_assoc, arith, count_before_events, count_in, Ending, EndOfInput, Err}
 use Rattle.history_text.proofs.Common.{Event, event_format, false, Front, front_of, HasEventLine, HasText, HaveLines}
 use Rattle.history_text.proofs.Common.{HaveValueLines, Header, header_of, HistoryText, inl, inr, length, line, line_at_front}
@@ -23,11 +23,11 @@ use Rattle.text_lines.specs.declared.fault.TextFault.TheVariants.{Cut}
 
 -- ---- the input, judged line by line
 
--- what a text says, and what comes after what it says: more bytes, or a fault
+-- the content of a text, and what comes after it: more bytes, or a fault
 abbrev pub Said : Type 0
 Said = PendingText × Result (List ℕ) TextFault
 
--- the event of a line; or none, and nothing is taken
+-- the event of a line; if it is none, nothing is taken
 abbrev next_event : List ℕ → Result (EventLine × List ℕ) TextFault → Result (Option Event × List ℕ) TextFault
 next_event bytes (Ok (OneEvent e, rest)) = Ok (Some e, rest)
 next_event bytes (Ok (Stop calls, rest)) = Ok (None, bytes)
@@ -71,7 +71,7 @@ module _ (is_pending : Bool) (version : Version) (initial : List ℕ) (n : ℕ) 
       (λ k e rest has some. ap (next_event (line_of event_format e ++ rest)) (event_line_read is_pending (n + k) k ending e rest has some))
       right.each (omega arith) few (omega (arith, few)) at)
 
-  -- up to the line at which they stop
+  -- events are read up to the line at which they stop
   stop_then : (events : List Event) (calls : Option ℕ) (r : List ℕ) → HaveLines event_format events → IsStop is_pending calls
       → events_in (lines_of event_format events ++ (stop_line calls (length events) ++ r)) ≡ Ok (after_stop events calls r)
   stop_then events calls r right stop =
@@ -80,7 +80,7 @@ module _ (is_pending : Bool) (version : Version) (initial : List ℕ) (n : ℕ) 
       events_then events (stop_line calls (length events) ++ r) right (ap (next_event (stop_line calls (length events) ++ r)) read)
       ∙ ap (λ found. Ok (stopped events found)) read
 
-  -- whole lines
+  -- whole lines are read
   pub events_read : (events : List Event) (calls : Option ℕ) (rest : List ℕ) → HaveLines event_format events → IsStop is_pending calls
       → events_in (lines_of event_format events ++ (stop_line calls (length events) ++ (lines_after_stop calls (length events) ++ rest)))
       ≡ Ok (text_with events calls, Ok rest)
@@ -91,7 +91,7 @@ module _ (is_pending : Bool) (version : Version) (initial : List ℕ) (n : ℕ) 
       ∙ ap (λ (found : Result (Unit {0} × List ℕ) TextFault). Ok (text_with events (Some calls), found >>= λ last. Ok last.1))
       (last_line_read (n + length events + 1) (length events) ending rest (omega (arith, few)))
 
-  -- their first fault
+  -- the first fault of the lines of events is found
   pub events_found : (fault : TextFault) (bytes : List ℕ) (events : List Event) (calls : Option ℕ)
       → FaultAfterEvents is_pending n ending fault bytes events calls → events_in bytes ≡ Ok (text_with events calls, Err fault)
   events_found fault bytes events None h =
@@ -101,11 +101,11 @@ module _ (is_pending : Bool) (version : Version) (initial : List ℕ) (n : ℕ) 
       ap events_in is.front ∙ stop_then events (Some calls) is.rest is.right (record { of_kind = sym h.0; few = is.few_open })
       ∙ ap (λ (found : Result (Unit {0} × List ℕ) TextFault). Ok (text_with events (Some calls), found >>= λ last. Ok last.1)) is.next
 
--- as many initial values as were told, and the events
+-- the initial values, as many as were counted, and the events
 abbrev values_in : Bool → ℕ → ℕ → Ending → List ℕ → Result Said TextFault
 values_in is_pending k n ending bytes = among_in value_format k n ending bytes >>= λ values. events_in is_pending Two values.0 (n + k) ending values.1
 
--- what comes after the first line, from line n on
+-- the lines after the first, from line n on
 abbrev after_first : Bool → Version → ℕ → Ending → List ℕ → Result Said TextFault
 after_first is_pending One n ending bytes = events_in is_pending One [] n ending bytes
 after_first is_pending Two n ending bytes =
@@ -140,12 +140,12 @@ first_then : (is_pending : Bool) (version : Version) (lines : ℕ) (ending : End
 first_then is_pending version lines ending rest = then_ok _ _ _ (first_line_read is_pending version ending rest)
 
 module _ (is_pending : Bool) (n : ℕ) (ending : Ending) where
-  -- the line that counts the initial values
+  -- the line that counts the initial values is read
   count_then : (k : ℕ) (rest : List ℕ) → k ≤ MAX_INITIAL
       → after_first is_pending Two n ending (line (spaced (count_fields k)) ++ rest) ≡ values_in is_pending k (n + 1) ending rest
   count_then k rest few = then_ok _ _ _ (count_says k few n ending rest)
 
-  -- the initial values
+  -- the initial values are read
   values_then : (version : Version) (initial rest : List ℕ) (m : ℕ) → m + 1 ≡ n + count_before_events version initial → HaveValueLines version initial
       → after_first is_pending version n ending (value_lines version initial ++ rest) ≡ events_in is_pending version initial m ending rest
   values_then One initial rest m same none =
@@ -178,7 +178,7 @@ whole_said lines ending t rest has =
     ∙ values_then kind (lines + 2) ending t.version t.initial (events ++ (stop ++ (last ++ rest))) m (omega arith) has.initial
     ∙ events_read kind t.version t.initial m ending t.events t.open_calls rest has.events (record { of_kind = refl; few = has.few_open })
 
--- what is cut off is read as far as it goes
+-- a text that is cut off is read as far as it goes
 pub cut_said : (lines : ℕ) (input : Ahead) (t : PendingText) → IsCutText lines input t → pending_in lines input.ending input.bytes ≡ Ok (t, Err Cut)
 cut_said lines input t is =
     let first = line (first_line_of is.is_pending t.version) in
@@ -191,7 +191,7 @@ cut_said lines input t is =
 
 -- ---- a first fault is found
 
--- a fault is found: before the events, or after what is said then, where that isn't allowed to be cut off
+-- a fault is found: before the events, or after what is read, if a cut-off text isn't allowed
 abbrev pub IsFound : Bool → TextFault → Result Said TextFault → Type 0
 IsFound takes_cut fault found = (found ≡ Err fault) ⊎ ((t : PendingText) × (found ≡ Ok (t, Err fault)) × (takes_cut ≡ true → fault ≢ Cut))
 
@@ -225,14 +225,14 @@ fault_said takes_cut lines ending bytes fault (inr (is_pending, version, (rest, 
     moved_found takes_cut fault _ _ (ap (pending_in lines ending) is ∙ first_then is_pending version lines ending rest)
     (later_fault takes_cut is_pending version (lines + 2) ending fault rest h)
 
--- ---- an input says one thing
+-- ---- an input has one content
 
--- what comes after what is said
+-- what comes after the content
 abbrev after_said : Result Said TextFault → Result (List ℕ) TextFault
 after_said (Ok said) = said.1
 after_said (Err fault) = Err fault
 
--- nothing is both whole and faulty
+-- no input is both whole and faulty
 not_both : (s t : PendingText) (rest : List ℕ) (fault : TextFault) (found : Result Said TextFault) → found ≡ Ok (s, Ok rest) → found ≡ Ok (t, Err fault) → ⊥
 not_both s t rest fault found whole faulty =
     let both : Ok rest ≡ Err fault = ap after_said (sym whole ∙ faulty) in cc
@@ -240,13 +240,13 @@ not_both s t rest fault found whole faulty =
 not_before : (said : Said) (fault : TextFault) (found : Result Said TextFault) → found ≡ Ok said → found ≡ Err fault → ⊥
 not_before said fault found read faulty = let both : Ok said ≡ Err fault = sym read ∙ faulty in cc
 
--- two whole texts at the front of one input are one text
+-- whole texts that one input begins with are equal
 pub one_whole : (s t : PendingText) (q r : List ℕ) → HasPendingText s → HasPendingText t → pending_text s ++ q ≡ pending_text t ++ r → (s ≡ t) × (q ≡ r)
 one_whole s t q r has_s has_t same =
     let both : Ok (s, Ok q) ≡ Ok (t, Ok r) =
     sym (whole_said 0 EndOfInput s q has_s) ∙ ap (pending_in 0 EndOfInput) same ∙ whole_said 0 EndOfInput t r has_t in grind (arith, both)
 
--- so is what comes of a text before the input ends
+-- an input is a part of one text only
 pub one_cut : (lines : ℕ) (input : Ahead) (s t : PendingText) → IsCutText lines input s → IsCutText lines input t → s ≡ t
 one_cut lines input s t is_s is_t =
     let both = sym (cut_said lines input s is_s) ∙ cut_said lines input t is_t in grind (arith, both)
@@ -258,7 +258,7 @@ whole_or_cut lines input s t rest has front is =
     not_both s t rest Cut (pending_in lines input.ending input.bytes) (ap (pending_in lines input.ending) front ∙ whole_said lines input.ending s rest has)
     (cut_said lines input t is)
 
--- it has no fault
+-- a whole text has no fault
 pub whole_or_fault : (takes_cut : Bool) (lines : ℕ) (ending : Ending) (t : PendingText) (rest : List ℕ) (fault : TextFault) → HasPendingText t
     → IsPendingTextFault takes_cut lines ending (pending_text t ++ rest) fault → ⊥
 whole_or_fault takes_cut lines ending t rest fault has h =
@@ -268,7 +268,7 @@ whole_or_fault takes_cut lines ending t rest fault has h =
       | inr after ↦ not_both t after.0 rest fault _ read after.1
     ]
 
--- nor has what is cut off, where that is allowed
+-- a text that is cut off has no fault, if this is allowed
 pub cut_or_fault : (lines : ℕ) (input : Ahead) (t : PendingText) (fault : TextFault) → IsCutText lines input t
     → IsPendingTextFault true lines input.ending input.bytes fault → ⊥
 cut_or_fault lines input t fault is h =
@@ -280,7 +280,7 @@ cut_or_fault lines input t fault is h =
           let same : fault ≡ Cut = grind (arith, both) in absurd (after.2 refl same)
     ]
 
--- an input has one first fault
+-- an input has only one first fault
 pub one_pending_fault : (takes_cut : Bool) (lines : ℕ) (ending : Ending) (bytes : List ℕ) (f g : TextFault)
     → IsPendingTextFault takes_cut lines ending bytes f → IsPendingTextFault takes_cut lines ending bytes g → f ≡ g
 one_pending_fault takes_cut lines ending bytes f g h k =
@@ -297,7 +297,7 @@ one_pending_fault takes_cut lines ending bytes f g h k =
 
 -- ---- whole texts alone
 
--- what a whole text says, and the bytes after it
+-- the content of a whole text, and the bytes after it
 abbrev pub with_rest : PendingText → Result (List ℕ) TextFault → Result (PendingText × List ℕ) TextFault
 with_rest t (Ok rest) = Ok (t, rest)
 with_rest t (Err fault) = Err fault
@@ -313,14 +313,14 @@ found_whole : (takes_cut : Bool) (fault : TextFault) (found : Result Said TextFa
 found_whole takes_cut fault found (inl before) = ap whole_of before
 found_whole takes_cut fault found (inr after) = ap whole_of after.1
 
--- so an input is judged
+-- so the input is judged in this way
 pub judged : (takes_cut : Bool) → IsJudged HasPendingText pending_text Anything (IsPendingTextFault takes_cut) whole_in
 judged takes_cut = record {
   read = λ lines ending t rest has _. ap whole_of (whole_said lines ending t rest has);
   found = λ lines ending bytes fault h. found_whole takes_cut fault (pending_in lines ending bytes) (fault_said takes_cut lines ending bytes fault h);
 }
 
--- ---- a history's text is one of these
+-- ---- the text of a history is one of these
 
 pub same_text : (t : HistoryText) → pending_text (as_pending t) ≡ text_of t
 same_text t = by_version t.version t.initial t.events

@@ -1,4 +1,4 @@
--- Two texts of schedules at the front of one input are one, and an input has one first fault.
+-- Texts of schedules that one input begins with are equal, and an input has only one first fault.
 use Rattle.history_text.proofs.Common.{[], ap, append_assoc, arith, Ending, Err, Front, front_of, HasScheduleText}
 use Rattle.history_text.proofs.Common.{Header, header_fault, inl, inr, IsScheduleTextFault, IsSetting, line}
 use Rattle.history_text.proofs.Common.{line_at_front, lines_before_steps, List, nat_tests, Ok, refl, Result}
@@ -16,7 +16,7 @@ abbrev steps_in : ℕ × ℕ → ℕ → Ending → List ℕ → Result (Schedul
 steps_in set n ending bytes =
     items_in step_format n ending bytes >>= λ items. Ok (record { threads = set.0; ring = set.1; steps = items.0 }, items.1)
 
--- what comes after the first line
+-- the lines after the first
 abbrev after_header : ℕ → Ending → List ℕ → Result (Schedule × List ℕ) TextFault
 after_header lines ending bytes = line_at_front setting_in (lines + 2) ending (front_of bytes) >>= λ set. steps_in set.0 (lines + 3) ending set.1
 
@@ -51,6 +51,6 @@ found lines ending bytes fault (inr (inl (rest, is, h))) = ap (schedule_in lines
 found lines ending bytes fault (inr (inr (threads, ring, within, (rest, is, h)))) = ap (schedule_in lines ending) is
     ∙ setting_then lines threads ring ending rest within ∙ then_err _ _ _ (fault_found step_format step_front (lines + 3) ending fault rest h)
 
--- so an input is judged
+-- so the input is judged in this way
 pub judged : IsJudged HasScheduleText schedule_text Anything IsScheduleTextFault schedule_in
 judged = record { read = read; found = found }

@@ -1,4 +1,4 @@
--- Two claims whose texts are one input are one, and an input has one first fault.
+-- Claims whose texts are one input are equal, and an input has only one first fault.
 use Rattle.history_text.proofs.Common.{[], Ahead, ap, append-nil, append_assoc, arith, claim_line_format, ClaimFault}
 use Rattle.history_text.proofs.Common.{Left}
 use Rattle.history_text.proofs.Common.{codes, Ending, EndOfInput, Err, false, first_line, FirstLineFault, Format}
@@ -17,7 +17,7 @@ abbrev answers : List (Option ViolationKind × List ℕ)
 answers = (None, first_line None) ∷ (Some VFresh, first_line (Some VFresh)) ∷ (Some VRepeat, first_line (Some VRepeat))
     ∷ (Some VOrd, first_line (Some VOrd)) ∷ (Some VWit, first_line (Some VWit)) ∷ []
 
--- what is made of lines, and the bytes after them
+-- the claim made of lines, and the bytes after them
 abbrev made : {A : Type 0} → (List A → Claimed) → List A × List ℕ → Result (Claimed × List ℕ) TextFault
 made make items = Ok (make items.0, items.1)
 
@@ -83,21 +83,21 @@ found : (lines : ℕ) (ending : Ending) (bytes : List ℕ) (fault : TextFault) �
 found lines ending bytes fault (inl h) = then_err _ _ _ (no_answer _ ending fault _ h)
 found lines ending bytes fault (inr (answer, (rest, is, h))) = grind (arith, answer_then, later_found)
 
--- so an input is judged
+-- so the input is judged in this way
 pub judged : IsJudged HasVerdictText verdict_text IsLast IsVerdictTextFault verdict_in
 judged = record { read = read; found = found }
 
--- a verdict that is all of the input stands there
+-- a verdict that is all of the input is what it begins with
 pub stands : (old : Left) (text : List ℕ) → IsAll old text → Stands IsLast old text
 stands old text all = λ a may.
     let is = all a may in ([], ap (λ (b : Ahead). b.bytes) is ∙ sym (append-nil text), (refl, ap (λ (b : Ahead). b.ending) is))
 
--- two claims of one text are one
+-- claims with the same text are equal
 pub texts_agree : (c d : Claimed) → HasVerdictText c → HasVerdictText d → verdict_text c ≡ verdict_text d → c ≡ d
 texts_agree c d text_c text_d same =
     (judging.texts_agree judged EndOfInput c d [] [] text_c text_d (refl, refl) (refl, refl) (ap (λ (t : List ℕ). t ++ []) same)).0
 
--- a text has no fault
+-- a text of a verdict has no fault
 pub text_has_no_fault : (lines : ℕ) (c : Claimed) (fault : TextFault) → HasVerdictText c → IsVerdictTextFault lines EndOfInput (verdict_text c) fault → ⊥
 text_has_no_fault lines c fault text h = judging.text_has_no_fault judged lines EndOfInput c [] fault text (refl, refl)
     (subst (λ (t : List ℕ). IsVerdictTextFault lines EndOfInput t fault) (sym (append-nil (verdict_text c))) h)

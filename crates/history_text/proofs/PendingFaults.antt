@@ -1,4 +1,4 @@
--- From a fault of one line to the first fault of a text whose calls may be pending.
+-- From the fault of one line to the first fault of a text in which calls may be pending.
 use Rattle.history_text.proofs.Common.{Ahead, ap, append_assoc, arith, bytes_eq, count_before_events, Ending, Err, Event}
 use Rattle.history_text.proofs.Common.{after, Left, OfLeft}
 use Rattle.history_text.proofs.Common.{event_format, false, false_from_ne_true, FaultAtFront, front_of, HasFirstFault, HasTextFault}
@@ -31,7 +31,7 @@ whole_line_faulty read n m old new bytes (Ok said) same taken e = tt
 whole_line_faulty read n m old new bytes (Err fault) same taken e =
     at_line (λ end front. whole_line_at_front (read n) n end front ≡ Err fault) old new bytes taken.0 taken.1 (λ end rest. rw (← same, ← e) refl)
 
--- another line is the first of none
+-- another line is not the first of a text
 pub other_first : (old new : Left) (bytes : List ℕ) → Takes old new (line bytes) → IsPartOfLine bytes
     → ((is_pending : Bool) (version : Version) → bytes ≡ first_line_of is_pending version → ⊥) → FaultAtFront NoFirstLine old Header
 other_first old new bytes taken part other =
@@ -81,7 +81,7 @@ counted_taken is_pending None events old mid stop new is pending lines here last
 counted_taken is_pending (Some calls) events old mid stop new is pending lines here last =
     Takes-append old mid new _ _ lines (Takes-append mid stop new _ _ here last)
 
--- and nothing comes after it, if no pending calls are counted
+-- no line comes after the one that counts the events, if no pending calls are counted
 pub plain_taken : (is_pending : Bool) (calls : Option ℕ) (events : List Event) (old mid stop : Left) → IsStop is_pending calls → is_pending ≡ false
     → Takes old mid (lines_of event_format events) → Takes mid stop (stop_line calls (length events))
     → Takes old stop (lines_of event_format events ++ (stop_line calls (length events) ++ lines_after_stop calls (length events)))
@@ -91,7 +91,7 @@ plain_taken is_pending None events old mid stop is plain lines here =
 
 -- ---- the initial values
 
--- what is read of them
+-- the initial values are read
 pub values_read : {V : Type 0} (items_of : V → List ℕ) (count : ℕ) (old mid new : Left) (r : Result V TextFault) → Takes old mid (line_of count_format count)
     → IfOk r (λ v. HaveLines value_format (items_of v) × Takes mid new (lines_of value_format (items_of v))) → IfOk r (λ v. length (items_of v) ≡ count)
     → IfOk r (λ v. HaveValueLines Two (items_of v) × Takes old new (value_lines Two (items_of v)))
@@ -99,7 +99,7 @@ values_read items_of count old mid new (Err fault) first read long = tt
 values_read items_of count old mid new (Ok v) first read long =
     (read.0, Takes-append old mid new _ _ (subst (λ k. Takes old mid (line_of count_format k)) (sym long) first) read.1)
 
--- and their fault
+-- the fault of the initial values
 pub values_fault : {V : Type 0} (count n m : ℕ) (old mid : Left) (r : Result V TextFault) → count ≤ MAX_INITIAL → m ≡ n + 1
     → Takes old mid (line_of count_format count) → IfErr r (HasFaultAmong value_format count m mid)
     → IfErr r (HasFirstFault (ValuesFault Two n) (NoRoomForValues Two) old)
@@ -114,14 +114,14 @@ pub lines_before_taken : (version : Version) (initial : List ℕ) (old mid new :
 lines_before_taken One initial old mid new first none = taken_through old mid new _ first none
 lines_before_taken Two initial old mid new first values = Takes-append old mid new _ _ first values
 
--- a first line that is that of no version
+-- the first line is that of no version
 pub version_fault : (lines : ℕ) (old : Left) (fault : TextFault) → IsOfInput fault → FaultAtFront NoVersionFault old fault → HasTextFault lines old fault
 version_fault lines old fault of_input h =
     first_is (IsTextFault lines) NoRoomForText old fault of_input (record { input = h.input; may = h.may; is_so = inl h.is_so })
 
 -- ---- the whole text
 
--- what is known of a fault holds of it, out of memory aside
+-- a fact about each fault holds of it, out of memory aside
 known_too : (L : Type 0) (P Q : TextFault → Type 0) (fault : TextFault) → Q fault → MemoryOr L P fault → MemoryOr L (λ f. P f × Q f) fault
 known_too L P Q Memory known h = h
 known_too L P Q fault known h = (h, known)
@@ -195,7 +195,7 @@ module _ (takes_cut is_pending : Bool) (version : Version) (lines m : ℕ) (old 
       room One have r k = (is_pending, One, (r, whole One r, k))
       room Two have r k = (is_pending, Two, (lines_of_initial initial ++ r, whole Two r, inr (initial, have, (r, refl, k))))
 
-  -- what is read of a text that is cut off
+  -- a text that is cut off was read
   pub cut_read : (t : PendingText) → version ≡ t.version → m ≡ lines + count_before_events t.version t.initial + 1 → HaveValueLines t.version t.initial
       → Takes old mid (line (first_line_of is_pending t.version) ++ value_lines t.version t.initial) → fault ≡ Cut
       → HasEventsFault is_pending m mid t.events t.open_calls fault → OfLeft old (λ a. IsCutText lines a t)
@@ -206,7 +206,7 @@ module _ (takes_cut is_pending : Bool) (version : Version) (lines m : ℕ) (old 
         is_so = record { is_pending = is_pending; initial = right; rest = is.input.bytes; front = refl; cut = is.is_so };
       }
 
--- what is read of a text that is whole
+-- a whole text was read
 pub whole_read : (t : PendingText) (is_pending : Bool) (old a b new : Left) → Takes old a (line (first_line_of is_pending t.version))
     → HaveValueLines t.version t.initial → Takes a b (value_lines t.version t.initial) → HaveLines event_format t.events → IsStop is_pending t.open_calls
     → Takes b new (lines_of event_format t.events ++ (stop_line t.open_calls (length t.events) ++ lines_after_stop t.open_calls (length t.events)))

@@ -1,4 +1,4 @@
--- A complete history has a text, and the claim of a verdict on a history that has a text has one. The lines at some places.
+-- A complete history has a text, and so has the claim of a verdict on a history that has one. Lines at places.
 use Rattle.history_text.proofs.Common.{All, All-contains, All-from_recursion, AllByRecursion, ap, append-nil, ap₂}
 use Rattle.history_text.proofs.Common.{arith, Asked, Bool, claim_line, claim_of, ClaimLine, common_steps, cons_option}
 use Rattle.history_text.proofs.Common.{Contains, Deq, Empty, Event, filter_map, flat_map, flat_map-append}
@@ -45,7 +45,7 @@ value_by Empty call answer = tt
 value_by (Deq v) call answer = answer
 value_by _ call answer = call
 
--- an operation of events that have lines has one
+-- each operation of events that have lines has a line
 has_line : (events : List Event) (o : Operation) → AllByRecursion HasEventLine events → Contains (operations_of events) o → HasOperationLine o
 has_line events o all among =
     let made = operation_events events o among in
@@ -53,13 +53,13 @@ has_line events o all among =
     let answer = all_of HasEventLine events (operation_return o) all made.1 in
     record { call = call.ticket; ret = answer.ticket; thread = call.thread; value = value_by o.kind call.value answer.value }
 
--- what holds of what may stand at a place holds of what stands at some places
+-- a property of each element at a place holds of the elements at some places
 at_places : {X Y : Type 0} (P : X → Type 0) (at : Y → Option X) (places : List Y) → ((p : Y) (x : X) → at p ≡ Some x → P x)
     → AllByRecursion P (filter_map at places)
 at_places P at [] all = tt
 at_places {X} P at (p ∷ places) all = grind (arith, at_places P at places all)
 
--- what holds of what each value is made into holds of what an optional one is made into
+-- a property of the image of each value holds of the image of an optional one
 mapped : {X Y : Type 0} (P : Y → Type 0) (f : X → Y) (o : Option X) (y : Y) → option_map f o ≡ Some y → ((x : X) → o ≡ Some x → P (f x)) → P y
 mapped P f None y is each = cc
 mapped P f (Some x) y is each = let same : f x ≡ y = cc in subst P same (each x refl)
@@ -99,13 +99,13 @@ claim_has_text text verdict has few = claim_by_parts text.initial text.events (v
 -- ---- the lines at some places, as they are written
 
 module _ {S : Type 0} (contents : S → Option (List ℕ)) (has_refused : S → Bool) (transition : S → Asked → S → Type 0) where
-  -- the lines of the first places went out in part
+  -- the lines of the first places were written in part
   pub first_stops : {P T E : Type 0} (f : P → List ℕ) (Q : E → Type 0) (r : Result T E) (xs ys : List P) (kept rest : List ℕ) (a b : S) → IsErrAnd r Q
       → TakesFront contents has_refused transition (kept ++ flat_map f xs) a b
       → PutsText contents has_refused transition kept rest (flat_map f (xs ++ ys)) a b r
   first_stops f Q r xs ys kept rest a b is h = grind (arith, flat_map-append, stops_before)
 
-  -- the lines of the first places are put, and then those of the others
+  -- the lines of the first places are written, and then those of the others
   pub others_then : {P T E : Type 0} (f : P → List ℕ) (r : Result T E) (xs ys : List P) (kept mid rest : List ℕ) (a b c : S)
       → TakesSome contents has_refused transition kept mid (flat_map f xs) a b → PutsText contents has_refused transition mid rest (flat_map f ys) b c r
       → PutsText contents has_refused transition kept rest (flat_map f (xs ++ ys)) a c r
@@ -113,12 +113,12 @@ module _ {S : Type 0} (contents : S → Option (List ℕ)) (has_refused : S → 
       subst (λ (t : List ℕ). PutsText contents has_refused transition kept rest t a c r) (sym (flat_map-append f xs ys))
       (puts_then contents has_refused transition r kept mid rest (flat_map f xs) (flat_map f ys) a b c h k)
 
--- the lines for each of a list are those of all its places
+-- the lines of each part of a list are those of all its places
 pub lines_for_each : {X P : Type 0} (f : P → List ℕ) (g : X → List P) (xs : List X) → flat_map (λ x. flat_map f (g x)) xs ≡ flat_map f (flat_map g xs)
 lines_for_each f g [] = refl
 lines_for_each f g (x ∷ xs) = ap (λ (r : List ℕ). flat_map f (g x) ++ r) (lines_for_each f g xs) ∙ sym (flat_map-append f (g x) (flat_map g xs))
 
--- the line of an operation that may be missing
+-- the line of an optional operation
 pub last_text : (f : LinePlace → List ℕ) (last : Option ℕ) (places : List ℕ) → MatchOption last (places ≡ []) (λ p. places ≡ p ∷ [])
     → flat_map (λ p. f (place.Op p)) places ≡ flat_map f (maybe_place last)
 last_text f None places is = rw is refl
@@ -129,7 +129,7 @@ one_more : {X : Type 0} (text : X → List ℕ) (here : Option X) (rest : List X
 one_more text None rest = refl
 one_more text (Some x) rest = ap (λ (r : List ℕ). r ++ flat_map text rest) (sym (append-nil (text x)))
 
--- the lines of what stands at some places are those at the places, one after another
+-- the lines of the elements at some places, one after another
 pub text_at_places : {X P : Type 0} (text : X → List ℕ) (at : P → Option X) (places : List P)
     → flat_map text (filter_map at places) ≡ flat_map (λ p. flat_map text (option_to_list (at p))) places
 text_at_places text at [] = refl

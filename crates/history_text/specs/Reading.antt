@@ -1,4 +1,4 @@
--- What a call on a reader says of the input that the reader had ahead.
+-- What a call on a reader returns about the input that was left.
 use Rattle.std.specs.Prelude.{◌≡◌, ℕ, Bool, true, false, List, [], ◌∷◌, ◌++◌}
 use Rattle.text_lines.specs.declared.fault.TextFault.{TextFault}
 use Rattle.text_lines.specs.declared.fault.TextFault.TheVariants.{Read, Trailing}
@@ -8,22 +8,22 @@ use Rattle.history_text.specs.Versions.{IsTextFault, NoRoomForText}
 use Rattle.history_text.specs.Schedules.{IsScheduleTextFault, NoRoomForSchedule}
 use Rattle.history_text.specs.Claims.{IsVerdictTextFault, NoRoomForVerdict}
 
--- what is left to be judged: bytes that were read, and then what is known of what the source gives
+-- the input that is left: bytes that were read, and then what is known of those that the source gives
 pub record Left : Type 0 where
   pub front : List ℕ
   pub behind : Known
 
--- a reader of texts: what is left to be judged, and what became of the rest
+-- a reader of texts: the input that is left, and the progress
 pub record Input : Type 0 where
   pub left : Left
-  pub lines : ℕ  -- how many lines were taken
-  pub is_stopped : Bool  -- a call answered a fault
+  pub lines : ℕ  -- the number of lines read
+  pub is_stopped : Bool  -- whether a call returned a fault
 
--- as far as it is known, this may be what is left
+-- this may be the input that is left, as far as is known
 abbrev pub MayBeLeft : Left → Ahead → Type 0
 MayBeLeft left a = (more : Ahead) × MayGive left.behind more × (a ≡ after left.front more)
 
--- some input that may be left is so: the one that is known, if it is known
+-- some input that may be left has this property: the input itself, if it is known
 pub record OfLeft (left : Left) (IsSo : Ahead → Type 0) : Type 0 where
   pub input : Ahead
   pub may : MayBeLeft left input
@@ -33,11 +33,11 @@ pub record OfLeft (left : Left) (IsSo : Ahead → Type 0) : Type 0 where
 pub record Takes (old new : Left) (given : List ℕ) : Type 0 where
   pub before : (a : Ahead) → MayBeLeft new a → MayBeLeft old (after given a)
 
--- whatever may be left, no byte is, and the input ends so
+-- no byte is left, and the input ends in this way
 pub record IsOver (ending : Ending) (left : Left) : Type 0 where
   pub only : (a : Ahead) → MayBeLeft left a → a ≡ over ending
 
--- the first fault of what is left; out of memory says that a line without fault was there
+-- the first fault of the input that is left; if it is out of memory, a line without fault was there
 abbrev pub HasFirstFault : (Ending → List ℕ → TextFault → Type 0) → (List ℕ → Type 0) → Left → TextFault → Type 0
 HasFirstFault IsFault LacksRoom left fault = OfLeft left (λ a. MemoryOr (LacksRoom a.bytes) (IsFault a.ending a.bytes) fault)
 
@@ -53,11 +53,11 @@ HasScheduleTextFault lines left fault = HasFirstFault (IsScheduleTextFault lines
 abbrev pub HasVerdictTextFault : ℕ → Left → TextFault → Type 0
 HasVerdictTextFault lines left fault = HasFirstFault (IsVerdictTextFault lines) NoRoomForVerdict left fault
 
--- whatever may be left, these bytes stand at its front
+-- the input that is left begins with these bytes, whatever it may be
 abbrev pub BeginsWith : Left → List ℕ → Type 0
 BeginsWith left text = (a : Ahead) → MayBeLeft left a → (rest : List ℕ) × (a.bytes ≡ text ++ rest)
 
--- whatever may be left, it is these bytes, and no failure
+-- the input that is left is exactly these bytes, without a failure
 abbrev pub IsAll : Left → List ℕ → Type 0
 IsAll left text = (a : Ahead) → MayBeLeft left a → a ≡ record { bytes = text; ending = EndOfInput }
 
@@ -69,17 +69,17 @@ HasMore a = (b : ℕ) × (more : List ℕ) × (a.bytes ≡ b ∷ more)
 abbrev pub Fails : Ahead → Type 0
 Fails a = (a.bytes ≡ []) × (a.ending ≡ Failure)
 
--- the fault of an input that should be over: a byte is there, or the source failed
+-- the fault of an input that should be over: there is a byte, or the source failed
 abbrev pub IsEndFault : Ahead → TextFault → Type 0
 IsEndFault a Trailing = HasMore a
 IsEndFault a Read = Fails a
 IsEndFault a _ = ⊥
 
--- the fault of what is left, which should be nothing
+-- the fault of the input that is left, which should be none
 abbrev pub HasEndFault : Left → TextFault → Type 0
 HasEndFault left fault = OfLeft left (λ a. IsEndFault a fault)
 
--- whether the input is over: it is, and the source didn't fail; or a byte is ahead, whatever else may be
+-- whether the input is over: it is, without a failure; or there is a byte
 abbrev pub IsOverIf : Left → Bool → Type 0
 IsOverIf left true = IsOver EndOfInput left
 IsOverIf left false = (a : Ahead) → MayBeLeft left a → HasMore a

@@ -1,4 +1,4 @@
--- The texts of schedules: how they are written, and the first fault of bytes that should begin with one.
+-- Texts of schedules: how they are written, and the first fault of bytes that should begin with one.
 use Rattle.std.specs.Prelude.{◌≡◌, ℕ, ◌+◌, ◌≤◌, true, ◌⊎◌}
 use Rattle.std.specs.Prelude.{List, [], ◌∷◌, ◌++◌, length, codes, decimal, Some, slice_index}
 use Rattle.std.specs.declared.result.Result.{Result}
@@ -25,7 +25,7 @@ answer_fields Not = codes "not" ∷ []
 answer_fields (Got v) = codes "got" ∷ decimal v ∷ []
 answer_fields Empty = codes "empty" ∷ []
 
--- the word of a step, its thread, and what else it says
+-- the fields of a step: its word, its thread, and the rest
 abbrev pub step_fields : Step → List (List ℕ)
 step_fields (AskEnq t) = codes "ask-enq" ∷ decimal t ∷ []
 step_fields (AskDeq t) = codes "ask-deq" ∷ decimal t ∷ []
@@ -36,12 +36,12 @@ step_fields (Ret t) = codes "ret" ∷ decimal t ∷ []
 step_fields (Drain t k) = codes "drain" ∷ decimal t ∷ decimal k ∷ []
 step_fields (Close t) = codes "close" ∷ decimal t ∷ []
 
--- an answer whose value, if it has one, has 64 bits
+-- the value of the answer, if there is one, has 64 bits
 abbrev pub IsAnswerInRange : Answer → Type 0
 IsAnswerInRange (Got v) = v ≤ greatest_value
 IsAnswerInRange _ = Unit {0}
 
--- which steps have a line
+-- steps that have a line
 abbrev pub HasStepLine : Step → Type 0
 HasStepLine (Say t answer) = (t ≤ MAX_THREAD) × IsAnswerInRange answer
 HasStepLine (Drain t k) = (t ≤ MAX_THREAD) × (k ≤ MOST_DRAINED)
@@ -52,7 +52,7 @@ HasStepLine (Effect t) = t ≤ MAX_THREAD
 HasStepLine (Ret t) = t ≤ MAX_THREAD
 HasStepLine (Close t) = t ≤ MAX_THREAD
 
--- the second line: how many threads, and for how many events each ring has room
+-- the fields of the second line: the number of threads, and the capacity of each ring
 abbrev pub setting_fields : ℕ → ℕ → List (List ℕ)
 setting_fields threads ring = codes "threads" ∷ decimal threads ∷ codes "ring" ∷ decimal ring ∷ []
 
@@ -66,23 +66,23 @@ lines_before_steps threads ring = line schedule_header ++ line (spaced (setting_
 
 -- ---- what is read
 
--- the form of a step that says no more than its thread, by its word
+-- the form of a step with only a thread, by its word
 abbrev pub plain_step : List ℕ → List FieldForm
 plain_step word = Word word ∷ a_thread ∷ []
 
--- the form of a saying with no value, by the word of its answer
+-- the form of a `say` without a value, by the word of its answer
 abbrev pub plain_saying : List ℕ → List FieldForm
 plain_saying answer = Word (codes "say") ∷ a_thread ∷ Word answer ∷ []
 
--- the form of a saying with a value
+-- the form of a `say` with a value
 abbrev pub valued_saying : List FieldForm
 valued_saying = Word (codes "say") ∷ a_thread ∷ Word (codes "got") ∷ a_value ∷ []
 
--- the form of a draining
+-- the form of a `drain`
 abbrev pub draining : List FieldForm
 draining = Word (codes "drain") ∷ a_thread ∷ Number 0 MOST_DRAINED ∷ []
 
--- the forms of the lines of steps, and the step that each form stands for, with 0 as the thread and as another number
+-- the forms of step lines, each with its step, with 0 as the thread and as any other number
 abbrev pub step_forms : Table Step
 step_forms =
     (AskEnq 0, plain_step (codes "ask-enq")) ∷ (AskDeq 0, plain_step (codes "ask-deq")) ∷ (Push 0, plain_step (codes "push"))
@@ -90,12 +90,12 @@ step_forms =
     ∷ (Drain 0 0, draining) ∷ (Say 0 Taken, plain_saying (codes "taken")) ∷ (Say 0 Not, plain_saying (codes "not"))
     ∷ (Say 0 Empty, plain_saying (codes "empty")) ∷ (Say 0 (Got 0), valued_saying) ∷ []
 
--- puts this value into the answer, if it has one
+-- the answer with its value replaced, if it has one
 abbrev pub answer_with : Answer → ℕ → Answer
 answer_with (Got _) v = Got v
 answer_with answer v = answer
 
--- puts this thread into the step, and this number, if it has another one
+-- the step with its thread replaced, and its other number, if it has one
 abbrev pub step_with : Step → ℕ → ℕ → Step
 step_with (AskEnq _) t v = AskEnq t
 step_with (AskDeq _) t v = AskDeq t
@@ -106,11 +106,11 @@ step_with (Ret _) t v = Ret t
 step_with (Drain _ _) t v = Drain t v
 step_with (Close _) t v = Close t
 
--- the step that a line says by its form and its numbers
+-- the step of a line, from its form and its numbers
 abbrev pub step_of : Step → List ℕ → Step
 step_of step numbers = step_with step (slice_index numbers 0) (slice_index numbers 1)
 
--- the step of line n, by its fields
+-- the step on line n, from its fields
 abbrev pub step_in : ℕ → List (List ℕ) → Result Step TextFault
 step_in n fields = read_by step_forms step_of n fields
 
@@ -122,17 +122,17 @@ setting_form = Word (codes "threads") ∷ Number 1 MAX_THREADS ∷ Word (codes "
 abbrev pub setting_forms : Table (Unit {0})
 setting_forms = (tt, setting_form) ∷ []
 
--- the setting that a line says by its numbers
+-- the setting of a line, from its numbers
 abbrev pub setting_of : Unit {0} → List ℕ → ℕ × ℕ
 setting_of _ numbers = (slice_index numbers 0, slice_index numbers 1)
 
--- the numbers of threads and of places in a ring that line n says, by its fields
+-- the number of threads and the capacity of the rings on line n, from its fields
 abbrev pub setting_in : ℕ → List (List ℕ) → Result (ℕ × ℕ) TextFault
 setting_in n fields = read_by setting_forms setting_of n fields
 
 -- ---- schedules
 
--- what a schedule lists
+-- the format of a schedule, which lists steps
 abbrev pub step_format : Format Step
 step_format = record { fields = step_fields; HasLine = HasStepLine; most = MAX_STEPS; is_counted = true; read = step_in }
 
@@ -147,21 +147,21 @@ pub record IsSetting (threads ring : ℕ) : Type 0 where
   pub some_room : MIN_RING ≤ ring
   pub little_room : ring ≤ MAX_RING
 
--- which schedules have a text
+-- schedules that have a text
 pub record HasScheduleText (s : Schedule) : Type 0 where
   pub setting : IsSetting s.threads s.ring
   pub steps : HaveLines step_format s.steps
 
--- the first two lines are right, and what comes after them is so
+-- the first two lines are valid, and P holds of the bytes after them
 abbrev pub AfterSetting : (List ℕ → Type 0) → List ℕ → Type 0
 AfterSetting P bytes = (threads : ℕ) × (ring : ℕ) × IsSetting threads ring × After (lines_before_steps threads ring) P bytes
 
--- the first line isn't right, or the second, or some steps are each in their line, and the line after them has this fault
+-- the first fault of a text of a schedule: that of the first line, of the second, or of the line after some steps
 abbrev pub IsScheduleTextFault : ℕ → Ending → List ℕ → TextFault → Type 0
 IsScheduleTextFault lines ending bytes fault =
     (header_fault schedule_header ending (front_of bytes) ≡ Some fault)
     ⊎ (After (line schedule_header) (LineFault setting_in (lines + 2) ending fault) bytes ⊎ AfterSetting (ItemFault step_format (lines + 3) ending fault) bytes)
 
--- the first two lines are right, and some steps are each in their line; there was no room to keep the last
+-- the first two lines and those of some steps are valid, but there was no room for the last
 abbrev pub NoRoomForSchedule : List ℕ → Type 0
 NoRoomForSchedule bytes = AfterSetting (NoRoom step_format) bytes

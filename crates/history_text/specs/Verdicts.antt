@@ -1,4 +1,4 @@
--- The texts of verdicts: how they are written.
+-- Texts of verdicts as they are written.
 use Rattle.std.specs.Prelude.{ℕ, List, [], ◌∷◌, ◌++◌, codes, decimal}
 use Rattle.std.specs.List.{flat_map}
 use Rattle.history_merge.specs.declared.operation.Operation.{Operation}
@@ -11,19 +11,19 @@ use Rattle.claims.specs.declared.claimed.ClaimLine.TheVariants.{Op, Initial}
 use Rattle.claims.specs.declared.claimed.Claimed.{Claimed}
 use Rattle.claims.specs.declared.claimed.Claimed.TheVariants as claimed
 use Rattle.text_lines.specs.Lines.{line, spaced}
--- the places of a violation's operations, and of a value's in its cover, in the order in which they are shown
+-- the places of a violation's operations and of the values of its cover, in the order in which they are shown
 pub use Rattle.claims.specs.Shown.{maybe_place, places_of_step, violation_places}
--- the places of a verdict's operations and initial values, and what it claims
+-- the places of a verdict's operations and initial values, and its claim
 pub use Rattle.claims.specs.Claiming.{verdict_places, violation_kind, IsWithin, lines_at, operations_at, claim_of}
 
--- the words of what an operation did, with its value
+-- the words of a kind of operation, with its value
 abbrev pub kind_fields : OpKind → List (List ℕ)
 kind_fields (Enq v) = codes "enq" ∷ decimal v ∷ []
 kind_fields (Deq v) = codes "deq" ∷ decimal v ∷ []
 kind_fields Empty = codes "empty" ∷ []
 kind_fields (Not v) = codes "not" ∷ decimal v ∷ []
 
--- call, return, thread, and what the operation did
+-- the fields of an operation: call, return, thread, and kind
 abbrev pub operation_fields : Operation → List (List ℕ)
 operation_fields o = decimal o.call ∷ decimal o.ret ∷ decimal o.thread ∷ kind_fields o.kind
 
@@ -31,7 +31,7 @@ operation_fields o = decimal o.call ∷ decimal o.ret ∷ decimal o.thread ∷ k
 abbrev pub operation_line : Operation → List ℕ
 operation_line o = line (spaced (operation_fields o))
 
--- what a line of a `NO` says: an operation, or a value that the queue holds at first
+-- the fields of a line of a `NO`: of an operation, or of an initial value
 abbrev pub claim_line_fields : ClaimLine → List (List ℕ)
 claim_line_fields (Op o) = operation_fields o
 claim_line_fields (Initial v) = codes "init" ∷ decimal v ∷ []

@@ -1,4 +1,4 @@
-//! What collects the items of a text.
+//! Collectors of the items of a text.
 ghost use Rattle.std.specs.Prelude.{◌≡◌, ◌<◌, ◌++◌, ◌∷◌, [], List, ℕ, OnOk, length};
 ghost use Rattle.event_records.specs.declared.event.Event.{Event};
 ghost use Rattle.event_records.specs.declared.limits.TheConstants.{MAX_EVENTS};
@@ -9,16 +9,16 @@ use event_records::Event;
 use history_merge::HistoryBuilder;
 use std::alloc::AllocError;
 
-/// What collects the items of a text, one after another.
+/// A collector of the items of a text, one after another.
 pub(crate) trait Collects<T> {
-    /// Whether these items were added, one after another, to what stood before.
+    /// Relates the collector before and after these items were added in turn.
     ghost Adds: { Self → Self → List T → Type 0 };
 
     fn add(&mut self, item: T) -> Result<(), AllocError>
         ensures { (first : Self) (items : List T) → Adds first self.old items → length items < MAX_EVENTS
             → OnOk result (Adds first self.new (items ++ item ∷ [])) };
 
-    /// With no items nothing changes.
+    /// Without items nothing changes.
     ghost none: { (first : Self) → Adds first first [] };
 }
 

@@ -1,4 +1,4 @@
-//! The line of an event, judged by its form, or read in one pass.
+//! Event lines, parsed by their form, or in one pass.
 ghost use Rattle.std.specs.Prelude.{◌≡◌, ◌+◌, ◌≤◌, ◌++◌, ◌∷◌, length, drop, decimal, IfSome, slice_index};
 ghost use Rattle.text_lines.specs.Lines.{line, spaced};
 ghost use Rattle.history_text.specs.Histories as wanted;
@@ -9,25 +9,25 @@ use crate::item::Item;
 use event_records::{Event, MAX_EVENTS, MAX_THREAD, MAX_TICKET, What};
 use text_lines::{Field, NumberFields, TextFault, after_word_at, number_at};
 
-/// A ticket in a line.
+/// The field of a ticket.
 pub(crate) const TICKET: Field = Field::Number {
     least: 0,
     greatest: MAX_TICKET,
 };
 
-/// A thread in a line.
+/// The field of a thread.
 pub(crate) const THREAD: Field = Field::Number {
     least: 0,
     greatest: MAX_THREAD as u64,
 };
 
-/// A value in a line.
+/// The field of a value.
 pub(crate) const VALUE: Field = Field::Number {
     least: 0,
     greatest: u64::MAX,
 };
 
-/// The forms of the lines of events, and what each form stands for, with 0 as the value.
+/// The forms of event lines, each with the kind of its events, with 0 as the value.
 const EVENT_FORMS: [(What, &[Field]); 6] = [
     (
         What::CallEnq(0),
@@ -43,7 +43,7 @@ const EVENT_FORMS: [(What, &[Field]); 6] = [
     (What::RetEmpty, &[TICKET, THREAD, Field::Word(b"ret-empty")]),
 ];
 
-/// Puts this value into it, if it has one.
+/// Replaces the value of a kind of events, if it has one.
 fn what_with(what: What, value: u64) -> What
     ensures { result ≡ wanted.what_with what value }
 {
@@ -54,7 +54,7 @@ fn what_with(what: What, value: u64) -> What
     }
 }
 
-/// Makes the event that a line says, from its form and its numbers.
+/// Makes the event of a line from its form and its numbers.
 fn event_of(what: What, numbers: &NumberFields) -> Event
     requires { slice_index numbers.now 1 ≤ MAX_THREAD }
     ensures { result ≡ wanted.event_of what numbers.now }
@@ -66,7 +66,7 @@ fn event_of(what: What, numbers: &NumberFields) -> Event
     }
 }
 
-/// Returns the thread at this place, and the place after the space that follows it.
+/// Parses the thread at `at`. Returns it with the place after the space that follows.
 #[tactic(auto, using(crate::proofs::FormLines::one_digit, crate::proofs::FormLines::two_digits))]
 #[inline(always)]
 fn thread_at(bytes: &[u8], at: usize) -> Option<(u8, usize)>
@@ -89,10 +89,10 @@ fn thread_at(bytes: &[u8], at: usize) -> Option<(u8, usize)>
     Some((thread, at + 3))
 }
 
-/// Returns what a thread called or the queue answered, if its words and a line feed stand at this place, and the place
-/// after them.
+/// Parses the word, the value if there is one, and the line feed at `at`. Returns the kind of the event with the
+/// place after them.
 ///
-/// Eight bytes are compared at once; calls apart from returns, so that fewer of the tests are in doubt.
+/// Eight bytes are compared at once. Calls are told from returns first, so that fewer branches are hard to predict.
 #[inline(always)]
 fn what_at(bytes: &[u8], at: usize) -> Option<(What, usize)>
     requires { at + 34 ≤ length bytes.now }

@@ -1,4 +1,4 @@
-//! How the text of a history is written.
+//! Writers of history texts.
 ghost use Rattle.std.specs.Prelude.{◌≡◌, ◌+◌, ◌≤◌, ◌++◌, [], length, OnOk, All};
 ghost use Rattle.std.specs.List.{flat_map};
 ghost use Rattle.text_lines.specs.Lines.{spaced, end_line, greatest_value};
@@ -38,7 +38,7 @@ fn push_what(kept: &mut WriteBuffer, what: What)
     }
 }
 
-/// The lines of initial values and of events.
+/// The writer of the lines of initial values and events.
 #[derive(Clone, Copy)]
 struct HistoryLines;
 
@@ -79,7 +79,7 @@ impl WritesLine<PackedEvent> for HistoryLines {
     }
 }
 
-/// Puts the lines of events, and may hold back the end of the text.
+/// Writes the lines of events. The end of the text may be held back.
 fn put_events<W: TextSink>(
     events: Events<'_>,
     kept: &mut WriteBuffer,
@@ -94,7 +94,7 @@ fn put_events<W: TextSink>(
     Ok(())
 }
 
-/// Puts the lines before the events, and may hold back the end of the text.
+/// Writes the lines before the events. The end of the text may be held back.
 fn put_before_events<W: TextSink>(
     version: Version,
     initial: &[u64],
@@ -119,7 +119,7 @@ fn put_before_events<W: TextSink>(
     }
 }
 
-/// Puts the last line, after this many events.
+/// Writes the last line, which counts the events.
 fn put_end<W: TextSink>(
     count: usize,
     kept: &mut WriteBuffer,
@@ -134,7 +134,7 @@ fn put_end<W: TextSink>(
     Ok(())
 }
 
-/// Puts the whole text, and may hold back its end.
+/// Writes the whole text. Its end may be held back.
 fn put_text<W: TextSink>(
     version: Version,
     history: &History,
@@ -151,9 +151,9 @@ fn put_text<W: TextSink>(
     put_end(history.events().len(), kept, writer)
 }
 
-/// Writes the text of a history in a version. It takes no memory, and its time is linear in the text.
+/// Writes the text of a history in this version. Takes no memory, and time linear in the text.
 ///
-/// The bytes go out in pieces of up to 4,096. It doesn't flush the writer.
+/// The bytes are written in pieces of up to 4,096. The writer isn't flushed.
 #[tactic(auto, using(text_lines::proofs::Putting::goes_out))]
 pub fn write_history<W: TextSink>(
     version: Version,
@@ -164,7 +164,7 @@ pub fn write_history<W: TextSink>(
     requires { version ≡ One → history.now.initial ≡ [] }
     ensures text { Writes W.contents W.has_refused W.transition (text_of (said_in version history.now)) writer.old writer.new result }
 
-    // `read_history` reads back what is written, as it reads each text at the front of its input.
+    // `read_history` reads back what is written, since it reads each text that its input begins with.
     ensures readable { OnOk result (HasText (said_in version history.now)) }
 {
     let mut kept = WriteBuffer::new();
@@ -172,7 +172,7 @@ pub fn write_history<W: TextSink>(
     write_piece(kept.as_slice(), writer)
 }
 
-/// Puts the text of these values and events, and may hold back its end.
+/// Writes the text of these values and events. Its end may be held back.
 fn put_events_text<W: TextSink>(
     version: Version,
     initial: &[u64],
@@ -188,8 +188,8 @@ fn put_events_text<W: TextSink>(
     put_end(events.len(), kept, writer)
 }
 
-/// Writes the text of initial values and events in a version, as [`write_history`] does of a history. The events may be
-/// any; it takes no memory, and its time is linear in the text.
+/// Writes the text of initial values and events in this version, as [`write_history`] does for a history. The events
+/// may be any. Takes no memory, and time linear in the text.
 #[tactic(auto, using(text_lines::proofs::Putting::goes_out))]
 pub fn write_events<W: TextSink>(
     version: Version,

@@ -1,4 +1,4 @@
-//! What texts list: events, steps or operations, one in each line.
+//! Items of texts: events, steps or operations, one to a line.
 ghost use Rattle.std.specs.Prelude.{◌≡◌, ◌≤◌, ◌&&◌, ◌++◌, length, drop, IfOk, IfErr, IfSome};
 ghost use Rattle.event_records.specs.declared.limits.TheConstants.{MAX_EVENTS};
 ghost use Rattle.text_lines.specs.Lines.{IsLineFault, fields_of, begins_as_end};
@@ -8,29 +8,32 @@ ghost use Rattle.history_text.specs.Inner.Taking.{IsSpelled, IsItemLine};
 
 use text_lines::{TextFault, end_in};
 
-/// As many bytes have room for all that is read of a line at once.
+/// The longest prefix of a line that the fast path reads.
 pub(crate) const ROOM: usize = 64;
 
-/// What a line of a text stands for.
+/// An item of a text, which has a line of its own.
 pub(crate) trait Item: Drop {
-    /// How a text lists such items.
+    /// The format of texts that list these items.
     ghost format: { Format Self };
 
-    /// The most items of a text, and whether a last line counts them. Otherwise they go on to the end of the input.
+    /// Returns the maximum number of items of a text, and whether a last line counts them. Otherwise the items
+    /// continue to the end of the input.
     fn limits() -> (usize, bool)
         ensures most { result.0 ≡ format.most }
         ensures is_counted { result.1 ≡ format.is_counted };
 
-    /// Returns the item of a whole line, or the first fault of its fields.
+    /// Parses the item of a whole line, or returns the first fault of its fields.
     fn from_line(line: u64, bytes: &[u8]) -> Result<Self, TextFault>
         ensures value { result ≡ format.read line (fields_of bytes.now) }
         ensures of_line { IfErr result IsLineFault }
         ensures spelled { IfOk result (IsSpelled format (fields_of bytes.now)) };
 
-    /// Returns the item whose line stands whole at the front, and the place after it.
+    /// Fast path: parses the item whose line is whole at the front of `bytes`. Returns it with the place after the
+    /// line.
     ///
-    /// It may read some right lines, and reads no wrong one. `from_line` judges what it doesn't read. It may read only
-    /// lines whose first number has as many digits as that of the last one, so that it needn't wait for their length.
+    /// It need not parse each valid line, since `from_line` parses the others, but it parses no invalid one. It may
+    /// parse only lines whose first number has as many digits as that of the previous line, so that it doesn't depend
+    /// on finding their length.
     fn at_front(bytes: &[u8], digits: &mut usize) -> Option<(Self, usize)>
         requires { ROOM ≤ length bytes.now }
         ensures { IfSome result (λ p. (bytes.now ≡ line_of format p.0 ++ drop p.1 bytes.now) × format.HasLine p.0) }
@@ -44,7 +47,7 @@ pub(crate) trait Item: Drop {
     ghost few: { format.most ≤ MAX_EVENTS };
 }
 
-/// Whether the line is a last one, which counts the lines before it.
+/// Returns whether this is a last line, which counts the lines before it.
 fn is_last<T: Item>(bytes: &[u8]) -> bool
     ensures { result ≡ (T.format.is_counted && begins_as_end bytes.now) }
 {
@@ -52,7 +55,7 @@ fn is_last<T: Item>(bytes: &[u8]) -> bool
     is_counted && bytes.starts_with(b"end ")
 }
 
-/// Reads a whole line after this many items: an item, or none if it is the last line.
+/// Parses a whole line after this many items. Returns its item, or none if it is the last line.
 pub(crate) fn item_in<T: Item>(
     line: u64,
     count: usize,

@@ -1,4 +1,4 @@
-//! Laws of texts. The functions do nothing when they run.
+//! Laws of texts, as contracts of functions that do nothing when they run.
 ghost use Rattle.std.specs.Prelude.{◌≡◌, ◌≤◌, ◌++◌, ℕ, Bool, true, List, [], length};
 ghost use Rattle.event_records.specs.declared.limits.TheConstants.{MAX_CLAIM_LINES};
 ghost use Rattle.history_merge.specs.Operations.{operations_of};
@@ -14,7 +14,7 @@ ghost use Rattle.history_text.specs.declared.pending_text.PendingText.{PendingTe
 ghost use Rattle.history_text.specs.Pending.{HasPendingText, IsCutText, IsPendingTextFault, as_pending, pending_text};
 ghost use Rattle.text_lines.specs.Input.{Ahead, Ending, EndOfInput};
 
-/// Proves that a text of a history says one thing: it has one version, one list of initial values, and one of events.
+/// Proves that the text of a history has only one version, one list of initial values, and one list of events.
 pub fn a_text_has_one_history()
     ensures { (first second : HistoryText) → HasText first → HasText second → text_of first ≡ text_of second → first ≡ second }
 {}
@@ -24,7 +24,7 @@ pub fn no_text_begins_another()
     ensures { (first second : HistoryText) (more : List ℕ) → HasText first → HasText second → text_of first ++ more ≡ text_of second → more ≡ [] }
 {}
 
-/// Proves that a text is the text of one schedule.
+/// Proves that a text is the text of only one schedule.
 pub fn a_text_has_one_schedule()
     ensures { (first second : Schedule) → HasScheduleText first → HasScheduleText second → schedule_text first ≡ schedule_text second → first ≡ second }
 {}
@@ -35,7 +35,7 @@ pub fn no_schedule_text_begins_another()
         → schedule_text first ++ more ≡ schedule_text second → more ≡ [] }
 {}
 
-/// Proves that a text is the text of one claim.
+/// Proves that a text is the text of only one claim.
 #[tactic(auto, using(crate::proofs::OneVerdict::texts_agree))]
 pub fn a_text_has_one_claim()
     ensures { (first second : Claimed) → HasVerdictText first → HasVerdictText second → verdict_text first ≡ verdict_text second → first ≡ second }
@@ -51,7 +51,7 @@ pub fn a_claim_on_a_text_has_a_text()
         → HasVerdictText (claim_of text.initial (operations_of text.events) verdict) }
 {}
 
-/// Proves that an input has one first fault, as the text of a history, of a schedule or of a verdict.
+/// Proves that an input has only one first fault, as the text of a history, of a schedule or of a verdict.
 pub fn one_first_fault()
     ensures history { (lines : ℕ) (ending : Ending) (bytes : List ℕ) (f g : TextFault)
         → IsTextFault lines ending bytes f → IsTextFault lines ending bytes g → f ≡ g }
@@ -61,9 +61,9 @@ pub fn one_first_fault()
         → IsVerdictTextFault lines ending bytes g → f ≡ g }
 {}
 
-/// Proves that an input has no fault if a text stands at its front; for a verdict, if the text is all of the input.
-/// So `read_history`, `read_schedule` and `read_verdict` return a fault if and only if no text stands there or memory
-/// runs out.
+/// Proves that an input has no fault if it begins with a text; for a verdict, if the text is all of the input. So
+/// `read_history`, `read_schedule` and `read_verdict` return a fault if and only if no text is there or memory runs
+/// out.
 pub fn a_text_has_no_fault()
     ensures history { (lines : ℕ) (ending : Ending) (text : HistoryText) (rest : List ℕ) (fault : TextFault) → HasText text
         → IsTextFault lines ending (text_of text ++ rest) fault → ⊥ }
@@ -73,11 +73,12 @@ pub fn a_text_has_no_fault()
         → IsVerdictTextFault lines EndOfInput (verdict_text claimed) fault → ⊥ }
 {}
 
-/// Proves that an input is read in one way where calls may be pending: a text says one thing, and none begins another;
-/// what comes of a text before the input ends is one thing too, and then no whole text stands there; and an input has one
-/// first fault, and none if it is read.
+/// Proves that an input of pending calls is read in only one way. A text has only one content, and no text is a
+/// proper prefix of another. A text that is cut off has only one content too, and then the input begins with no whole
+/// text. An input has only one first fault, and none if it is read.
 ///
-/// So `read_pending` returns a fault if and only if no text stands there, nor what comes of one, or memory runs out.
+/// So `read_pending` returns a fault if and only if the input begins with no text, whole or cut off, or memory runs
+/// out.
 pub fn one_pending_text()
     ensures whole { (first second : PendingText) (more : List ℕ) → HasPendingText first → HasPendingText second
         → pending_text first ++ more ≡ pending_text second → (first ≡ second) × (more ≡ []) }
@@ -93,7 +94,7 @@ pub fn one_pending_text()
         → IsPendingTextFault takes_cut lines ending bytes f → IsPendingTextFault takes_cut lines ending bytes g → f ≡ g }
 {}
 
-/// Proves that the text of a history is read as itself where calls may be pending.
+/// Proves that the text of a history, read as one whose calls may be pending, is read as itself.
 pub fn a_history_text_is_read_as_itself()
     ensures { (text : HistoryText) → HasText text → HasPendingText (as_pending text) × (pending_text (as_pending text) ≡ text_of text) }
 {}

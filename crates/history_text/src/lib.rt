@@ -1,9 +1,9 @@
-//! Texts of histories, verdicts and schedules, read and written.
+//! Reads and writes the texts of histories, verdicts and schedules.
 //!
-//! A history's text has a first line, one line for each event, and a last line that counts them; a schedule's has
-//! steps in place of events, and a second line for its setting. A verdict's is a first line and one line for each
-//! operation, to the end of the input. A reader judges any bytes, in any pieces, from any source: it returns what was
-//! written if and only if its text stands there, otherwise the first fault with its line.
+//! A history's text has a first line, one line for each event, and a last line that counts them. A schedule's text
+//! has steps in place of events, and a second line for its setting. A verdict's text has a first line and one line
+//! for each operation, to the end of the input. A reader judges any bytes, in any pieces, from any source: it returns
+//! what was written if and only if its text is there, otherwise the first fault with its line.
 #![tactic(auto)]
 
 mod collecting;

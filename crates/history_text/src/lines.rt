@@ -1,26 +1,26 @@
-//! How lines are written one after another, while the end of the text is held back.
+//! Writing lines one after another, while the end of the text is held back.
 ghost use Rattle.std.specs.Prelude.{◌≡◌, ◌+◌, ◌≤◌, ◌++◌, List, ℕ, length, OnOk, All};
 ghost use Rattle.std.specs.List.{flat_map};
 ghost use Rattle.text_lines.specs.Writing.{Puts, PutsText};
 
 use text_lines::{TextSink, WriteBuffer, WriteFault, make_room};
 
-/// How items are written in a text, one in each line.
+/// A writer of items, one to a line.
 pub(crate) trait WritesLine<T> {
     /// The line of an item, if it has one.
     ghost line: { Self → T → List ℕ };
 
-    /// Whether an item whose line was written is one that a text may have.
+    /// Holds if an item whose line was written may be in a text.
     ghost Fits: { Self → T → Type 0 };
 
-    /// Adds the item's line to what is held back.
+    /// Appends the item's line to the bytes that are held back.
     fn push(&self, item: &T, kept: &mut WriteBuffer)
         requires { length kept.old + 96 ≤ 4096 }
         ensures line { kept.new ≡ kept.old ++ line self.now item.now }
         ensures fits { Fits self.now item.now };
 }
 
-/// Puts the line of an item.
+/// Writes the line of an item.
 #[inline(always)]
 pub(crate) fn put_one<T, L: WritesLine<T>, W: TextSink>(
     lines: &L,
@@ -36,7 +36,7 @@ pub(crate) fn put_one<T, L: WritesLine<T>, W: TextSink>(
     Ok(())
 }
 
-/// Puts the lines of the items, in order.
+/// Writes the lines of the items, in order.
 pub(crate) fn put_each<T, L: WritesLine<T>, W: TextSink>(
     lines: &L,
     items: &[T],

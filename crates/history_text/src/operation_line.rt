@@ -1,4 +1,4 @@
-//! The lines of a verdict: its first one, its operations and the initial values of a `NO`, judged by their forms.
+//! The lines of verdicts, parsed by their forms: the first line, operations, and the initial values of a `NO`.
 ghost use Rattle.std.specs.Prelude.{◌≡◌, ◌≤◌, IfErr, IfOk, MatchOption, slice_index};
 ghost use Rattle.std.proofs.Common.{lit≤};
 ghost use Rattle.text_lines.specs.Lines.{IsLineFault, fields_of};
@@ -14,7 +14,7 @@ use history_merge::{OpKind, Operation};
 use text_lines::{Field, NumberFields, TextFault, split_field};
 use claims::{ClaimLine, ViolationKind};
 
-/// Returns what the first line of a verdict answers: no kind for a `YES`, the kind for a `NO`.
+/// Parses the first line of a verdict. Returns no kind for a `YES`, the kind for a `NO`.
 pub(crate) fn answer_in(bytes: &[u8]) -> Option<Option<ViolationKind>>
     ensures { MatchOption result (IsNoFirstLine bytes.now) (λ answer. bytes.now ≡ first_line answer) }
 {
@@ -33,7 +33,7 @@ pub(crate) fn answer_in(bytes: &[u8]) -> Option<Option<ViolationKind>>
     }
 }
 
-/// The forms of the lines of operations, and what each form stands for, with 0 as the value.
+/// The forms of operation lines, each with the kind of its operations, with 0 as the value.
 const OPERATION_FORMS: [(OpKind, &[Field]); 4] = [
     (
         OpKind::Enq(0),
@@ -53,10 +53,10 @@ const OPERATION_FORMS: [(OpKind, &[Field]); 4] = [
     ),
 ];
 
-/// The form of an initial value.
+/// The form of the line of an initial value.
 const INITIAL_FORMS: [((), &[Field]); 1] = [((), &[Field::Word(b"init"), VALUE])];
 
-/// Puts this value into it, if it has one.
+/// Replaces the value of a kind of operations, if it has one.
 fn kind_with(kind: OpKind, value: u64) -> OpKind
     ensures { result ≡ wanted.kind_with kind value }
 {
@@ -68,7 +68,7 @@ fn kind_with(kind: OpKind, value: u64) -> OpKind
     }
 }
 
-/// Makes the operation that a line says, from its form and its numbers.
+/// Makes the operation of a line from its form and its numbers.
 fn operation_of(kind: OpKind, numbers: &NumberFields) -> Operation
     requires { slice_index numbers.now 2 ≤ MAX_THREAD }
     ensures { result ≡ wanted.operation_of kind numbers.now }
@@ -81,7 +81,7 @@ fn operation_of(kind: OpKind, numbers: &NumberFields) -> Operation
     }
 }
 
-/// Returns the operation of a line, or the first fault of its fields.
+/// Parses the operation of a line, or returns the first fault of its fields.
 fn read_operation(line: u64, bytes: &[u8]) -> Result<Operation, TextFault>
     ensures value { result ≡ read_by wanted.operation_forms wanted.operation_of line (fields_of bytes.now) }
     ensures of_line { IfErr result IsLineFault }
@@ -91,7 +91,7 @@ fn read_operation(line: u64, bytes: &[u8]) -> Result<Operation, TextFault>
     Ok(operation_of(kind, &numbers))
 }
 
-/// Whether the first field is that of an initial value.
+/// Returns whether the first field is that of an initial value.
 fn is_initial(bytes: &[u8]) -> bool
     ensures { result ≡ wanted.is_initial (fields_of bytes.now) }
 {

@@ -1,4 +1,4 @@
-//! The lines after those of the initial values, where calls may be pending.
+//! Lines after the initial values, in texts whose calls may be pending.
 ghost use Rattle.std.specs.Prelude.{◌≡◌, Bool, Some, IfOk, IfErr, OnOk, MatchOption};
 ghost use Rattle.history_text.specs.declared.version.Version.{Version};
 ghost use Rattle.text_lines.specs.Lines.{IsLineFault, end_line, fields_of, line};
@@ -18,7 +18,7 @@ use text_lines::{Field, TextFault, end_in, split_field};
 #[derive(Clone, Copy)]
 pub(crate) enum EventLine {
     OneEvent(Event),
-    /// The line at which the events stop: the last one, or that which counts this many pending calls.
+    /// The line at which the events stop: the last one, or the one that counts this many pending calls.
     Stop(Option<usize>),
 }
 
@@ -34,7 +34,7 @@ const OPEN_FORMS: [((), &[Field]); 1] = [(
     ],
 )];
 
-/// Returns whether this is the first line of a pending text, and of which version.
+/// Returns whether this is the first line of a pending text, and its version; none if it is no first line.
 pub(crate) fn first_line_in(bytes: &[u8]) -> Option<(bool, Version)>
     ensures { MatchOption result ((is_pending : Bool) (version : Version) → bytes.now ≡ first_line_of is_pending version → ⊥)
         (λ first. bytes.now ≡ first_line_of first.0 first.1) }
@@ -61,7 +61,7 @@ fn counts_open(bytes: &[u8]) -> bool
     }
 }
 
-/// Returns how many calls a line says to be pending.
+/// Parses the number of pending calls from a line.
 fn open_in(number: u64, bytes: &[u8]) -> Result<usize, TextFault>
     ensures value { result ≡ wanted.open_in number (fields_of bytes.now) }
     ensures of_line { IfErr result IsLineFault }
@@ -71,7 +71,7 @@ fn open_in(number: u64, bytes: &[u8]) -> Result<usize, TextFault>
     Ok(numbers.at(0) as usize)
 }
 
-/// Returns the event of a whole line after this many.
+/// Parses the event of a whole line after this many events.
 fn next_event_in(number: u64, count: usize, bytes: &[u8]) -> Result<Event, TextFault>
     ensures value { result ≡ wanted.next_event_in number count bytes.now }
     ensures of_line { IfErr result IsLineFault }
@@ -83,7 +83,7 @@ fn next_event_in(number: u64, count: usize, bytes: &[u8]) -> Result<Event, TextF
     Event::from_line(number, bytes)
 }
 
-/// Returns what a whole line after this many events says, of a history or of a pending text.
+/// Parses a whole line after this many events, of a history or of a pending text.
 pub(crate) fn event_line_in(
     is_pending: bool,
     number: u64,
@@ -106,7 +106,7 @@ pub(crate) fn event_line_in(
     Ok(EventLine::OneEvent(event))
 }
 
-/// Checks a whole line after this many events, which has to count them.
+/// Checks that a whole line counts the events before it.
 pub(crate) fn last_line_in(number: u64, count: usize, bytes: &[u8]) -> Result<(), TextFault>
     ensures value { result ≡ wanted.last_line_in number count bytes.now }
     ensures of_line { IfErr result IsLineFault }

@@ -1,4 +1,4 @@
-//! How texts are read, line by line.
+//! Reading texts line by line.
 ghost use Rattle.std.specs.Prelude.{◌≡◌, ◌+◌, ◌<◌, ◌^◌, ◌≤◌, true, false, IfOk, IfErr, OnErr, OnOk, MatchResult, IfNone, IfSome};
 ghost use Rattle.std.specs.Prelude.{option_to_list, is_err, not, Err, Ok, length, List, []};
 ghost use Rattle.event_records.specs.declared.limits.TheConstants.{MAX_INITIAL};
@@ -39,11 +39,11 @@ use claims::{ClaimLines, Claimed, Lines, ViolationKind};
 
 /// A reader of texts, one after another, from one source.
 ///
-/// Contracts see what is left to be judged, how many lines were taken, and whether the reader is stopped: after the
-/// first fault that a call returns it stays stopped.
+/// Contracts see the input that is left, the number of lines read, and whether the reader is stopped. It stays
+/// stopped after the first fault that a call returns.
 ///
-/// It asks its source for at most 4,096 bytes at a time, and only after it has judged each line that stands whole in
-/// what it has. After a read that gave nothing or failed it doesn't ask again.
+/// The source is asked for at most 4,096 bytes at a time, and only once each line that is whole in the buffer was
+/// judged. After a read that gave nothing or failed, it isn't asked again.
 #[derive(Drop)]
 pub struct TextReader<R: TextSource> {
     source: R,
@@ -68,11 +68,12 @@ impl<R: TextSource> Model for TextReader<R> {
       is_stopped = r.is_stopped;
     } };
 
+    // A refill keeps at most ROOM bytes and reads at most BUFFER_LEN: 64 + 4096.
     ghost invariant = { λ r. (r.at ≤ r.filled) × (r.filled ≤ 4160) };
 }
 
 impl<R: TextSource> TextReader<R> {
-    /// Makes a reader at the beginning of its source. It takes no memory, and asks for nothing yet.
+    /// Makes a reader at the beginning of its source. Takes no memory, and reads nothing yet.
     pub fn new(source: R) -> Self
         ensures { result ≡ record { left = record { front = []; behind = R.ahead source }; lines = 0; is_stopped = false } }
     {
@@ -109,7 +110,7 @@ impl<R: TextSource> TextReader<R> {
         Ok(Some(self.buffer[0]))
     }
 
-    /// Whether there is a next byte. It doesn't take the byte.
+    /// Returns whether there is a next byte, which isn't taken.
     #[tactic(auto, using(crate::proofs::Buffers::has_more_in_buffer))]
     fn has_byte(&mut self) -> Result<bool, ReadFailed>
         ensures left { Takes self.old.left self.new.left [] }
@@ -126,7 +127,7 @@ impl<R: TextSource> TextReader<R> {
         Ok(self.filled > 0)
     }
 
-    /// Returns the next line, or none at the end of the input. A line that is too long has the given fault.
+    /// Returns the next line, or none at the end of the input. A line that is too long gives the fault `too_long`.
     fn next_line(&mut self, too_long: TextFault) -> Result<Option<Line>, TextFault>
         requires lines { self.old.lines + 1 < 2 ^ 64 }
         requires of_input { IsOfInput too_long }
@@ -153,7 +154,7 @@ impl<R: TextSource> TextReader<R> {
         }
     }
 
-    /// Returns the next line if it is whole. A line that is too long has the given fault.
+    /// Returns the next line if it is whole. A line that is too long gives the fault `too_long`.
     #[tactic(auto, using(crate::proofs::FirstFaults::no_line))]
     fn whole_line(&mut self, too_long: TextFault) -> Result<Line, TextFault>
         requires lines { self.old.lines + 1 < 2 ^ 64 }
@@ -201,7 +202,7 @@ impl<R: TextSource> TextReader<R> {
         }
     }
 
-    /// Returns the next item after this many, if there is room for it and its line stands whole in the buffer.
+    /// Fast path: returns the next item after this many, if there is room for it and its line is whole in the buffer.
     #[tactic(auto, using(crate::proofs::Buffers::takes_from_buffer))]
     #[inline(always)]
     fn item_in_buffer<T: Item>(&mut self, count: usize, digits: &mut usize) -> Option<T>
@@ -223,8 +224,8 @@ impl<R: TextSource> TextReader<R> {
         Some(item)
     }
 
-    /// Reads on after what is left of the buffer, which comes to its front; unless a line stands whole there, or more bytes
-    /// than are read of a line at once.
+    /// Moves the rest of the buffer to its front and refills it, unless a line is whole there, or more bytes than the
+    /// fast path reads.
     #[tactic(auto, using(crate::proofs::Buffers::moved_and_read))]
     #[inline(never)]
     fn complete_line(&mut self)
@@ -244,7 +245,7 @@ impl<R: TextSource> TextReader<R> {
         }
     }
 
-    /// Returns the item of the next line, however it comes.
+    /// Slow path: parses the next line after this many items.
     #[inline(never)]
     fn item_by_line<T: Item>(&mut self, count: usize) -> Result<Option<T>, TextFault>
         requires { self.old.lines + 1 < 2 ^ 64 }
@@ -263,7 +264,7 @@ impl<R: TextSource> TextReader<R> {
         Ok(None)
     }
 
-    /// Returns the item of the next line, which must be one: in one pass if the line stands whole in the buffer and is right.
+    /// Returns the item of the next line, which must be one. The fast path is tried first.
     fn required_item<T: Item>(&mut self) -> Result<T, TextFault>
         requires { self.old.lines + 1 < 2 ^ 64 }
         ensures ok { IfOk result (λ item. Takes self.old.left self.new.left (line_of T.format item) × T.format.HasLine item) }
@@ -278,7 +279,7 @@ impl<R: TextSource> TextReader<R> {
         T::from_line(self.lines, line.as_slice())
     }
 
-    /// Returns this many items, one in each line.
+    /// Returns this many items, one from each line.
     fn required_items<T: Item>(&mut self, alloc: Global, count: usize) -> Result<Vec<T>, TextFault>
         requires few { count ≤ T.format.most }
         requires lines { self.old.lines < 2 ^ 63 + 2 ^ 32 }
@@ -297,7 +298,7 @@ impl<R: TextSource> TextReader<R> {
         Ok(items)
     }
 
-    /// Collects the items from here on, up to the last line or the end of the input.
+    /// Collects the items up to the last line or the end of the input.
     #[tactic(auto, using(crate::proofs::FirstFaults::no_room))]
     fn collect_items<T: Item, C: Collects<T>>(&mut self, into: &mut C) -> Result<(), TextFault>
         requires { self.old.lines < 2 ^ 63 + 2 ^ 33 }
@@ -306,7 +307,7 @@ impl<R: TextSource> TextReader<R> {
         ensures fault { IfErr result (HasItemsFault T.format (self.old.lines + 1) self.old.left) }
     {
         let mut count = 0;
-        // How often what is left of the buffer was read on after, since the last item.
+        // Number of refills since the last item. After two, the slow path parses the line.
         let mut tries = 0u8;
         let mut digits = 0;
         loop {
@@ -330,7 +331,7 @@ impl<R: TextSource> TextReader<R> {
         }
     }
 
-    /// Returns the items from here on, up to the last line or the end of the input.
+    /// Returns the items up to the last line or the end of the input.
     fn items<T: Item>(&mut self, alloc: Global) -> Result<Vec<T>, TextFault>
         requires { self.old.lines < 2 ^ 63 + 2 ^ 33 }
         ensures each { IfOk result (λ v. HaveLines T.format v.items) }
@@ -343,7 +344,7 @@ impl<R: TextSource> TextReader<R> {
         Ok(items)
     }
 
-    /// Returns the version of the history's text that the input begins with, and its initial values.
+    /// Returns the version and the initial values of the history's text that the input begins with.
     fn before_events(&mut self, alloc: Global) -> Result<(Version, Vec<u64>), TextFault>
         requires { self.old.lines < 2 ^ 63 }
         ensures values { IfOk result (λ p. HaveValueLines p.0 p.1.items × Takes self.old.left self.new.left (lines_before_events p.0 p.1.items)) }
@@ -356,7 +357,7 @@ impl<R: TextSource> TextReader<R> {
         Ok((version, initial))
     }
 
-    /// Returns the initial values, which version 2 has.
+    /// Returns the initial values, which only version 2 has.
     fn initial_values(&mut self, alloc: Global, version: Version) -> Result<Vec<u64>, TextFault>
         requires { self.old.lines < 2 ^ 63 + 1 }
         ensures values { IfOk result (λ v. HaveValueLines version v.items × Takes self.old.left self.new.left (value_lines version v.items)) }
@@ -403,7 +404,7 @@ impl<R: TextSource> TextReader<R> {
         })
     }
 
-    /// Returns what the next line answers, as the first one of a verdict.
+    /// Returns the kind in the next line, the first of a verdict; none for a `YES`.
     fn answer(&mut self) -> Result<Option<ViolationKind>, TextFault>
         requires { self.old.lines + 1 < 2 ^ 64 }
         ensures ok { IfOk result (λ answer. Takes self.old.left self.new.left (line (first_line answer))) }
@@ -418,7 +419,7 @@ impl<R: TextSource> TextReader<R> {
         }
     }
 
-    /// Returns the verdict that the input is. The end of the input counts as one line more.
+    /// Returns the verdict that is all of the input. The end of the input counts as one more line.
     fn lines_of_claim(&mut self, alloc: Global) -> Result<Claimed, TextFault>
         requires { self.old.lines < 2 ^ 63 }
         ensures claim { IfOk result (λ c. HasVerdictText c × Takes self.old.left self.new.left (verdict_text c) × IsOver EndOfInput self.new.left) }
@@ -437,7 +438,7 @@ impl<R: TextSource> TextReader<R> {
         }
     }
 
-    /// Returns the verdict that the input is.
+    /// Returns the verdict that is all of the input.
     fn claim(&mut self, alloc: Global) -> Result<Claimed, TextFault>
         requires { self.old.lines < 2 ^ 63 }
         ensures claim { IfOk result (λ c. HasVerdictText c × Takes self.old.left self.new.left (verdict_text c) × IsOver EndOfInput self.new.left) }
@@ -445,12 +446,13 @@ impl<R: TextSource> TextReader<R> {
         ensures lines { IfOk result (λ c. self.new.lines ≡ self.old.lines + 1 + claim_length c) }
     {
         let claimed = self.lines_of_claim(alloc)?;
+        // The end of the input was counted as a line.
         self.lines -= 1;
         Ok(claimed)
     }
 }
 
-/// Checks that the input is over: `Trailing` comes if one more byte is there, `Read` if the source fails.
+/// Checks that the input is over. `Trailing` comes if there is one more byte, `Read` if the source fails.
 pub fn at_end<R: TextSource>(reader: &mut TextReader<R>) -> Result<(), TextFault>
     requires { reader.old.is_stopped ≡ false }
     ensures left { OnOk result (Takes reader.old.left reader.new.left [] × IsOver EndOfInput reader.new.left) }
@@ -467,8 +469,8 @@ pub fn at_end<R: TextSource>(reader: &mut TextReader<R>) -> Result<(), TextFault
     result
 }
 
-/// Returns whether the input is over. It takes nothing, so later reads see the same input. `Read` comes if the source
-/// fails, which is asked only if no byte that it gave is left.
+/// Returns whether the input is over. Takes no byte, so later reads see the same input. `Read` comes if the source
+/// fails, which is asked only once no byte from it is left.
 pub fn is_at_end<R: TextSource>(reader: &mut TextReader<R>) -> Result<bool, TextFault>
     requires { reader.old.is_stopped ≡ false }
     ensures left { IfOk result (λ _. Takes reader.old.left reader.new.left []) }
@@ -485,12 +487,12 @@ pub fn is_at_end<R: TextSource>(reader: &mut TextReader<R>) -> Result<bool, Text
     result
 }
 
-/// Reads the text of a history, of either version, that the input begins with, up to the line feed of its last line:
-/// returns its version, and a builder that holds its initial values and events.
+/// Reads the text of a history, of either version, that the input begins with, up to the line feed of its last line.
+/// Returns its version, and a builder that holds its initial values and events.
 ///
-/// [`HistoryBuilder::finish`] returns whether they make a complete history. The time is linear in the bytes read,
-/// beside that of the builder. The initial values and the builder take memory, and `Memory` comes only at a line
-/// that, like those before it, is whole and without fault.
+/// [`HistoryBuilder::finish`] returns whether they are a complete history. Takes time linear in the bytes read,
+/// beside that of the builder, and memory for the initial values and the builder. `Memory` comes only at a line that,
+/// like those before it, is whole and without fault.
 ///
 /// The text of one operation:
 ///
@@ -508,16 +510,16 @@ pub fn read_history<R: TextSource>(
     requires running { reader.old.is_stopped ≡ false }
     requires lines { reader.old.lines < 2 ^ 63 }
 
-    // What is read is the text of this version, these values and these events, nothing else is taken, and just these
-    // are in the builder.
+    // The input begins with the text of this version, these values and these events; nothing else is taken, and the
+    // builder has exactly these.
     ensures text { IfOk result (λ read. (text : HistoryText) × HasText text × Takes reader.old.left reader.new.left (text_of text)
         × ((reader.new.lines ≡ reader.old.lines + line_count text) × IsReadAs text read.0 read.1)) }
 
-    // A text of either version that stands at the front is read, unless memory runs out.
+    // A text of either version that the input begins with is read, unless memory runs out.
     ensures whole { (text : HistoryText) → HasText text → BeginsWith reader.old.left (text_of text)
         → MatchResult result (λ read. IsReadAs text read.0 read.1) (λ fault. fault ≡ TextFault.Memory) }
 
-    // A fault is the first one.
+    // The fault is the first one.
     ensures fault { IfErr result (HasTextFault reader.old.lines reader.old.left) }
 
     ensures stopped { reader.new.is_stopped ≡ is_err result }
@@ -529,9 +531,9 @@ pub fn read_history<R: TextSource>(
 
 /// Reads the text of a schedule that the input begins with, up to the line feed of its last line.
 ///
-/// It doesn't judge whether the threads are those of the setting, nor whether the steps are accepted. The time is
-/// linear in the bytes read. Only the steps take memory, and `Memory` comes only at a line that, like those before
-/// it, is whole and without fault.
+/// Whether the threads are those of the setting, and whether the steps are accepted, isn't judged. Takes time linear
+/// in the bytes read, and memory for the steps alone. `Memory` comes only at a line that, like those before it, is
+/// whole and without fault.
 pub fn read_schedule<R: TextSource>(
     alloc: Global,
     reader: &mut TextReader<R>,
@@ -539,14 +541,14 @@ pub fn read_schedule<R: TextSource>(
     requires running { reader.old.is_stopped ≡ false }
     requires lines { reader.old.lines < 2 ^ 63 }
 
-    // What is read is the text of this schedule, and nothing else is taken.
+    // The input begins with the text of this schedule, and nothing else is taken.
     ensures schedule { IfOk result (λ s. HasScheduleText s × Takes reader.old.left reader.new.left (schedule_text s)) }
 
-    // A text of a schedule that stands at the front is read, unless memory runs out.
+    // A text of a schedule that the input begins with is read, unless memory runs out.
     ensures whole { (schedule : Schedule) → HasScheduleText schedule → BeginsWith reader.old.left (schedule_text schedule)
         → MatchResult result (λ s. s ≡ schedule) (λ fault. fault ≡ TextFault.Memory) }
 
-    // A fault is the first one.
+    // The fault is the first one.
     ensures fault { IfErr result (HasScheduleTextFault reader.old.lines reader.old.left) }
 
     ensures lines { IfOk result (λ s. reader.new.lines ≡ reader.old.lines + 3 + length s.steps) }
@@ -557,10 +559,10 @@ pub fn read_schedule<R: TextSource>(
     result
 }
 
-/// Reads the text of a verdict, which goes on to the end of the input.
+/// Reads the text of a verdict, which continues to the end of the input.
 ///
-/// It may list any operations, and a `NO` any initial values: `verify` decides whether the claim is true. The time is
-/// linear in the bytes read. Only the lines take memory, and `Memory` comes only at a line that, like those before
+/// It may list any operations, and a `NO` any initial values: `verify` decides whether the claim is true. Takes time
+/// linear in the bytes read, and memory for the lines alone. `Memory` comes only at a line that, like those before
 /// it, is whole and without fault.
 pub fn read_verdict<R: TextSource>(
     alloc: Global,
@@ -569,14 +571,14 @@ pub fn read_verdict<R: TextSource>(
     requires running { reader.old.is_stopped ≡ false }
     requires lines { reader.old.lines < 2 ^ 63 }
 
-    // What is read is the text of this claim, and the input is over after it.
+    // The input is the text of this claim, and then over.
     ensures claim { IfOk result (λ c. HasVerdictText c × Takes reader.old.left reader.new.left (verdict_text c) × IsOver EndOfInput reader.new.left) }
 
-    // If the rest of the input is the text of a claim it is read, unless memory runs out.
+    // If the rest of the input is the text of a claim, it is read, unless memory runs out.
     ensures whole { (claimed : Claimed) → HasVerdictText claimed → IsAll reader.old.left (verdict_text claimed)
         → MatchResult result (λ c. c ≡ claimed) (λ fault. fault ≡ TextFault.Memory) }
 
-    // A fault is the first one.
+    // The fault is the first one.
     ensures fault { IfErr result (HasVerdictTextFault reader.old.lines reader.old.left) }
 
     ensures lines { IfOk result (λ c. reader.new.lines ≡ reader.old.lines + 1 + claim_length c) }

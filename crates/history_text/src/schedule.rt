@@ -2,19 +2,19 @@
 use event_records::{MAX_RING, OwnedSlice};
 use recorder_core::Step;
 
-/// The most events that one step of a schedule's text drains.
+/// The maximum number of events that a step in the text of a schedule drains.
 pub const MOST_DRAINED: u32 = MAX_RING as u32;
 
 /// The steps of a schedule in order, seen as a list.
 pub type Steps = OwnedSlice<Step>;
 
-/// What a schedule's text says. It may have any numbers and steps; `read_schedule` returns those of a text.
+/// The content of a schedule's text. It may have any numbers and steps; `read_schedule` returns those of a text.
 #[derive(Drop)]
 pub struct Schedule {
-    /// How many threads the machine has.
+    /// The number of threads of the machine.
     pub threads: usize,
     /// The capacity of each thread's ring, in events.
     pub ring: usize,
-    /// The steps that are tried, one after another. Some may be refused.
+    /// The steps that are tried, one after another. Some may be rejected.
     pub steps: Steps,
 }

@@ -1,14 +1,14 @@
-//! What a reader asks of its source.
+//! Reads from a source, up to its end.
 ghost use Rattle.std.specs.Prelude.{◌≡◌, ◌+◌, ◌≤◌, [], IfOk, OnErr, length, drop, take};
 ghost use Rattle.text_lines.specs.Input.{EndOfInput, Exactly, Failure, Gives, over};
 ghost use Rattle.history_text.specs.Inner.Taking.{behind};
 
 use text_lines::{ReadFailed, TextSource};
 
-/// The most bytes that one read asks a source for.
+/// The maximum number of bytes that one read asks a source for.
 pub(crate) const BUFFER_LEN: usize = 4096;
 
-/// Whether the end of a source was seen, which isn't asked again then.
+/// Whether the end of a source was seen. It isn't asked again then.
 #[derive(Clone, Copy)]
 pub(crate) enum SourceEnd {
     NotSeen,
@@ -18,7 +18,7 @@ pub(crate) enum SourceEnd {
     Failed,
 }
 
-/// Reads bytes to this place of a buffer, unless the end of the source was seen.
+/// Reads bytes into a buffer at `at`, unless the end of the source was seen. Returns their number.
 pub(crate) fn read_at<R: TextSource>(
     source: &mut R,
     end: &mut SourceEnd,

@@ -1,4 +1,4 @@
-//! The lines of a schedule: its setting and its steps, judged by their forms.
+//! The lines of schedules, parsed by their forms: the setting and the steps.
 ghost use Rattle.std.specs.Prelude.{◌≡◌, ◌≤◌, slice_index};
 ghost use Rattle.std.proofs.Common.{lit≤};
 ghost use Rattle.history_text.specs.Inner.Taking.{setting_format};
@@ -12,8 +12,7 @@ use event_records::{MAX_STEPS, MAX_THREAD};
 use recorder_core::{Answer, MAX_RING, MAX_THREADS, MIN_RING, Step};
 use text_lines::{Field, NumberFields, TextFault};
 
-/// The forms of the lines of steps, and the step that each form stands for, with 0 as the thread and as another
-/// number.
+/// The forms of step lines, each with its step, with 0 as the thread and as any other number.
 const STEP_FORMS: [(Step, &[Field]); 11] = [
     (Step::AskEnq(0), &[Field::Word(b"ask-enq"), THREAD]),
     (Step::AskDeq(0), &[Field::Word(b"ask-deq"), THREAD]),
@@ -50,7 +49,7 @@ const STEP_FORMS: [(Step, &[Field]); 11] = [
     ),
 ];
 
-/// Puts this value into the answer, if it has one.
+/// Replaces the value of an answer, if it has one.
 fn answer_with(answer: Answer, value: u64) -> Answer
     ensures { result ≡ wanted.answer_with answer value }
 {
@@ -60,7 +59,7 @@ fn answer_with(answer: Answer, value: u64) -> Answer
     }
 }
 
-/// Makes the step that a line says, from its form and its numbers.
+/// Makes the step of a line from its form and its numbers.
 fn step_of(step: Step, numbers: &NumberFields) -> Step
     requires thread { slice_index numbers.now 0 ≤ MAX_THREAD }
     requires has_line { HasStepLine (wanted.step_of step numbers.now) }
@@ -94,7 +93,7 @@ impl Item for Step {
     }
 }
 
-/// The form of the second line.
+/// The form of the second line, which has the setting.
 const SETTING_FORMS: [((), &[Field]); 1] = [(
     (),
     &[

@@ -12,7 +12,7 @@ use crate::version::Version;
 use event_records::MAX_INITIAL;
 use text_lines::{Field, TextFault, after_word_at, number_at};
 
-/// Returns the version of which this is the first line.
+/// Returns the version that begins with this line.
 pub(crate) fn version_in(bytes: &[u8]) -> Option<Version>
     ensures { MatchOption result ((version : Version) → bytes.now ≡ header_of version → ⊥) (λ version. bytes.now ≡ header_of version) }
 {
@@ -40,7 +40,7 @@ const COUNT_FORMS: [((), &[Field]); 1] = [(
 /// The form of the line of an initial value.
 const VALUE_FORMS: [((), &[Field]); 1] = [((), &[VALUE])];
 
-/// Whether the line has no byte.
+/// Returns whether the line is empty.
 #[tactic(auto, using(crate::proofs::FormLines::blank_line))]
 fn is_blank(bytes: &[u8]) -> bool
     ensures { result ≡ wanted.is_blank (fields_of bytes.now) }

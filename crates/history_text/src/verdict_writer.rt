@@ -1,4 +1,4 @@
-//! How the text of a verdict is written.
+//! Writers of verdict texts.
 ghost use Rattle.std.specs.Prelude.{◌≡◌, ◌+◌, ◌≤◌, ◌∷◌, ◌++◌, [], length, codes};
 ghost use Rattle.std.specs.List.{flat_map};
 ghost use Rattle.history_merge.specs.Operations.{operations_of};
@@ -35,7 +35,7 @@ fn push_kind(kept: &mut WriteBuffer, kind: OpKind, word: &'static [u8; 4])
     }
 }
 
-/// The word of an operation that has a value, with the space after it.
+/// Returns the word of an operation with a value, and a space.
 #[inline(always)]
 fn word_of(kind: OpKind) -> &'static [u8; 4]
     ensures { result.now ≡ word_of kind }
@@ -52,7 +52,7 @@ fn push_operation(kept: &mut WriteBuffer, operation: &Operation)
     requires { length kept.old + 96 ≤ 4096 }
     ensures { kept.new ≡ kept.old ++ operation_line operation.now }
 {
-    // Before all else, so that the word is chosen without a branch.
+    // First, so that choosing the word needs no branch.
     let word = word_of(operation.kind);
     kept.push_field(operation.call);
     kept.push_field(operation.ret);
@@ -76,7 +76,7 @@ fn push_line(kept: &mut WriteBuffer, shown: &ClaimLine)
     }
 }
 
-/// The lines at places of these initial values and operations.
+/// The writer of the lines at places of these initial values and operations.
 #[derive(Clone, Copy)]
 struct PlaceLines<'a> {
     initial: &'a [u64],
@@ -107,7 +107,7 @@ impl<'a> WritesLine<OpId> for PlaceLines<'a> {
     }
 }
 
-/// Puts the lines of the operations at the first places, and then that of the last one if there is one.
+/// Writes the lines of the operations at the first places, and then that at the last one, if there is one.
 fn put_with_last<W: TextSink>(
     lines: &PlaceLines,
     first: &[LinePlace],
@@ -200,7 +200,7 @@ fn put_violation<W: TextSink>(
     }
 }
 
-/// Puts the whole text, and may hold back its end.
+/// Writes the whole text. Its end may be held back.
 fn put_verdict<W: TextSink>(
     initial: &[u64],
     operations: &Operations<'_>,
@@ -228,10 +228,10 @@ fn put_verdict<W: TextSink>(
     }
 }
 
-/// Writes the text of a verdict on a history. It takes no memory, and its time is linear in the text.
+/// Writes the text of a verdict on a history. Takes no memory, and time linear in the text.
 ///
-/// A `YES` lists its operations in their order, a `NO` those that show the violation. The bytes go out in pieces of
-/// up to 4,096. It doesn't flush the writer.
+/// A `YES` lists its operations in their order, a `NO` those that show the violation. The bytes are written in pieces
+/// of up to 4,096. The writer isn't flushed.
 ///
 /// The `history` dequeues 7, which was never enqueued:
 ///
@@ -269,7 +269,7 @@ pub fn write_verdict<W: TextSink>(
 
 /// Writes the text of a history and that of a verdict on it, as `stress` prints them and `verify` reads them.
 ///
-/// It writes what [`crate::write_history`] and [`write_verdict`] write, and flushes no more than they do.
+/// It writes what [`crate::write_history`] and [`write_verdict`] write, and doesn't flush the writer either.
 pub fn write_shown<W: TextSink>(
     version: Version,
     history: &History,

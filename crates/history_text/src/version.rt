@@ -1,7 +1,7 @@
-/// The version of a history's text, by which it begins.
+/// The version of a history's text, which its first line names.
 #[derive(Clone, Copy, Debug, PartialEq, Eq, Drop)]
 pub enum Version {
-    /// Only events: the queue is empty at first.
+    /// Events only: the queue is empty at first.
     One,
     /// Initial values, and then events.
     Two,

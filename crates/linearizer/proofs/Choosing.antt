@@ -1,4 +1,4 @@
--- The values are put in order by repeated choice from two lists by times and flags, and with it the gaps of their enqueues.
+-- The values and the gaps of their enqueues are put in order by repeated choice from two sorted lists with flags.
 use Rattle.history_merge.proofs.Timelines.{length_timeline}
 use Rattle.linearizer.proofs.Common.{All, All-contains, All-get_or, All-map, All-more, All-nil, All-permutation}
 use Rattle.linearizer.proofs.Common.{All-push, All-weaker, ap, append-nil, append_assoc, AreByTime, AreCalledInTime}
@@ -56,7 +56,7 @@ no_order_violation history lives clear order in_time a b violation =
           no_later turn.remaining a b turn.is_choice turn.remains (omega (arith, times.dequeue_takes_time)) violation.overtakes.1
     ]
 
--- a value that is passed over is dequeued first of those that overtake another
+-- a value that is passed over is the first-dequeued value that overtakes another
 module _ (history : Contents) (values : List MatchedValue) (clear : IsClear (course_of history)) (holds : HoldsValues history values)
     (b : MatchedValue) (passed : IsPassedOver values b) where
   is_b : IsLife (course_of history) b.life
@@ -69,13 +69,13 @@ module _ (history : Contents) (values : List MatchedValue) (clear : IsClear (cou
   is_a = let m = mapped_from (λ m. m.life) values a (passed.among a passed.is_next.enters_first.0) in
       subst (IsLife (course_of history)) m.2 (value_lives history.initial history.operations clear values holds m.0 m.1)
 
-  -- the first of those left has entered when b is called
+  -- the first entered of those left has entered when b is called
   entered_before : entered_by a < enqueue_call b.life
   entered_before =
       let least = least_at entered_by passed.remaining a passed.entered passed.is_next.enters_first passed.is_left in
       omega (arith, least, passed.too_late)
 
-  -- so b is the first that was dequeued
+  -- so b is the first dequeued
   dequeued_first : (dequeue_return passed.is_next.first_dequeued < leaves_from a) × (b.life ≡ passed.is_next.first_dequeued)
   dequeued_first = elim (made passed.remaining b.life passed.is_next) [
     | inl dequeued ↦ dequeued
@@ -132,9 +132,9 @@ few_values history values clear holds few =
     sym (length-map values (λ m. m.life)) ∙ ap (λ lives. length lives) (holds.lives ∙ sym (same_lives history.initial history.operations)) in
     omega (arith, same, some_of (λ o. life_from all o o.kind) all, length_timeline history.initial history.operations)
 
--- ---- the values that are left, and the first of them in a list by times
+-- ---- the values that are left, and the first of them in a sorted list
 
--- the elements whose flag is not set
+-- the elements whose flag isn't set
 abbrev pub left_of : {X : Type 0} → List X → List Bool → List X
 left_of [] taken = []
 left_of (x ∷ xs) [] = []
@@ -146,7 +146,7 @@ pub all_left : {X : Type 0} (xs : List X) → left_of xs (replicate (length xs) 
 all_left [] = refl
 all_left (x ∷ xs) = ap (λ rest. x ∷ rest) (all_left xs)
 
--- what is left stands at a place whose flag is not set
+-- an element that is left stands at a place whose flag isn't set
 pub place_left : {X : Type 0} (xs : List X) (taken : List Bool) (i : ℕ) (x : X) → slice_get (left_of xs taken) i ≡ Some x
     → (p : ℕ) × (slice_get xs p ≡ Some x) × (slice_get taken p ≡ Some false)
 place_left [] taken i x at = cc
@@ -155,7 +155,7 @@ place_left (y ∷ ys) (true ∷ taken) i x at = let later = place_left ys taken 
 place_left (y ∷ ys) (false ∷ taken) zero x at = (zero, at, refl)
 place_left (y ∷ ys) (false ∷ taken) (suc i) x at = let later = place_left ys taken i x at in (suc later.0, later.1, later.2)
 
--- the flag of one that is left is set
+-- setting the flag of an element that is left takes that element
 pub one_taken : {X : Type 0} (xs : List X) (taken : List Bool) (p : ℕ) (x : X) → slice_get xs p ≡ Some x → slice_get taken p ≡ Some false
     → IsPermutation (left_of xs taken) (x ∷ left_of xs (set taken p true))
 one_taken [] taken p x at flag = cc
@@ -169,7 +169,7 @@ one_taken (y ∷ ys) (false ∷ taken) (suc p) x at flag =
     IsPermutation-trans (y ∷ left_of ys taken) (y ∷ x ∷ rest) (x ∷ y ∷ rest)
     (IsPermutation-cons y (left_of ys taken) (x ∷ rest) (one_taken ys taken p x at flag)) (IsPermutation-middle (y ∷ []) x rest)
 
--- an element whose flag is not set is left
+-- an element whose flag isn't set is left
 pub left_where : {X : Type 0} (xs : List X) (taken : List Bool) (p : ℕ) (x : X) → slice_get xs p ≡ Some x → slice_get taken p ≡ Some false
     → Contains (left_of xs taken) x
 left_where xs taken p x at flag =
@@ -184,7 +184,7 @@ flag_stays (b ∷ taken) zero (suc k) is = is
 flag_stays (b ∷ taken) (suc p) zero is = is
 flag_stays (b ∷ taken) (suc p) (suc k) is = flag_stays taken p k is
 
--- entries for the values before place i that have such a time
+-- entries for those values before place i that have such a time
 pub record AreTimedSoFar (number : Life → ℕ) (values : List MatchedValue) (i : ℕ) (entries : List Timed) : Type 0 where
   pub are_timed : All (IsTimeOf number values) entries
   pub are_past : All (λ timed. timed.time < NEVER) entries
@@ -193,7 +193,7 @@ pub record AreTimedSoFar (number : Life → ℕ) (values : List MatchedValue) (i
 
 module _ (number : Life → ℕ) (values : List MatchedValue) (i : ℕ) (entries : List Timed) (m : MatchedValue)
     (so_far : AreTimedSoFar number values i entries) (at : slice_get values i ≡ Some m) where
-  -- one value more with its time
+  -- one more value, with its time
   pub one_more_timed : (time : ℕ) → time ≡ number m.life → number m.life < NEVER
       → AreTimedSoFar number values (i + 1) (entries ++ record { time = time; place = i } ∷ [])
   one_more_timed time is past =
@@ -209,7 +209,7 @@ module _ (number : Life → ℕ) (values : List MatchedValue) (i : ℕ) (entries
         ];
       }
 
-  -- one value more that has no such time
+  -- one more value, which has no such time
   pub none_more_timed : NEVER ≤ number m.life → AreTimedSoFar number values (i + 1) entries
   none_more_timed never = record {
     are_timed = so_far.are_timed;
@@ -258,7 +258,7 @@ stands_after taken entries i k timed before at flag = elim (cases_lt k i) [
       cc
 ]
 
--- where some value is left, the walk along the entries ends
+-- while some value is left, the walk along the entries ends before their end
 pub not_past : (taken : List Bool) (entries : List Timed) (i : ℕ) → All (IsTaken taken) (take i entries)
     → (timed : Timed) × Contains entries timed × IsLeft taken timed → i < length entries
 not_past taken entries i before left =
@@ -272,14 +272,14 @@ flag_at : (taken : List Bool) (entries : List Timed) (i : ℕ) (d : Timed) (e b 
 flag_at taken entries i d e b flagged within is =
     slice_get-get_or taken (get_or entries i d).place e (All-get_or (λ timed. timed.place < length taken) entries i d within flagged) ∙ ap Some is
 
--- the walk goes on past an entry that is taken
+-- the walk continues past an entry that is taken
 pub walked : (taken : List Bool) (entries : List Timed) (i : ℕ) (d : Timed) (e : Bool) → All (λ timed. timed.place < length taken) entries
     → All (IsTaken taken) (take i entries) → i < length entries
     → get_or taken (get_or entries i d).place e ≡ true → All (IsTaken taken) (take (i + 1) entries)
 walked taken entries i d e flagged before within is =
     All-more (IsTaken taken) entries i d within before (flag_at taken entries i d e true flagged within is)
 
--- it ends at one that is not
+-- the walk ends at an entry that isn't taken
 pub stopped : (taken : List Bool) (entries : List Timed) (i : ℕ) (d : Timed) (e : Bool) → All (λ timed. timed.place < length taken) entries
     → All (IsTaken taken) (take i entries) → i < length entries
     → get_or taken (get_or entries i d).place e ≡ false → IsFirstLeft entries taken i
@@ -289,14 +289,14 @@ stopped taken entries i d e flagged before within is = record {
       subst (IsLeft taken) (get_or_from_slice_get entries i timed d at) (flag_at taken entries i d e false flagged within is);
 }
 
--- or behind the last
+-- the walk ends past the last entry
 pub ended : (taken : List Bool) (entries : List Timed) (i : ℕ) → All (IsTaken taken) (take i entries) → length entries ≤ i → IsFirstLeft entries taken i
 ended taken entries i before past = record {
   before = before;
   is_left = λ timed at. absurd (let within = slice_get_within entries i timed at in omega (arith, within, past));
 }
 
--- at the first entry whose value is left stands the least of the values that are left
+-- the first entry whose value is left has the least time of the values that are left
 pub record IsLeastLeft (number : Life → ℕ) (values : List MatchedValue) (taken : List Bool) (timed : Timed) : Type 0 where
   pub value : MatchedValue
   pub is_at : slice_get values timed.place ≡ Some value
@@ -357,7 +357,7 @@ module _ (number : Life → ℕ) (values : List MatchedValue) (entries : List Ti
         ]);
       }
 
-  -- behind the last entry all that are left have no such time, so each of them is the least
+  -- past the last entry none of those left has such a time, so each of them is the least
   pub none_sooner : (i : ℕ) (first : IsFirstLeft entries taken i) → length entries ≤ i → All (λ m. number m.life ≤ NEVER) values
       → (place : ℕ) (m : MatchedValue) → slice_get values place ≡ Some m → slice_get taken place ≡ Some false
       → IsLeastLeft number values taken (record { time = NEVER; place = place })
@@ -377,14 +377,14 @@ module _ (number : Life → ℕ) (values : List MatchedValue) (entries : List Ti
         is_least = least_among m among (λ y in_left. omega (arith, never y in_left));
       }
 
--- the value at a place that is left is the choice
+-- the value at this place is left, and is the choice
 pub record IsNext (values : List MatchedValue) (taken : List Bool) (place : ℕ) : Type 0 where
   pub value : MatchedValue
   pub is_at : slice_get values place ≡ Some value
   pub is_left : slice_get taken place ≡ Some false
   pub is_choice : IsChoice (lives_in (left_of values taken)) value.life
 
--- what is taken of the two lists is the choice
+-- the value taken from the two lists is the choice
 pub chosen : (values : List MatchedValue) (taken : List Bool) (first_in first_out : Timed) (place : ℕ) → IsLeastLeft entered_by values taken first_in
     → IsLeastLeft dequeue_return values taken first_out → TakesOneOf values first_in first_out place → IsNext values taken place
 chosen values taken first_in first_out place a b takes = elim (takes a.value a.is_at) [
@@ -424,7 +424,7 @@ next_at values entries dequeues taken i j first_in first_out place are_in are_ou
           (none_sooner dequeue_return values dequeues taken are_out j b none.0 bounded first_in.place least.value least.is_at least.is_left)
     ]) takes
 
--- ---- the values in order; each gap lies just before the least entry of those left
+-- ---- the values in order, each with the gap just before the least entry of those left
 
 -- the least entry of some lives, in any order
 pub least_is : (remaining lives : List Life) (first : Life) → IsLeastBy entered_by remaining first → IsPermutation remaining lives
@@ -441,7 +441,7 @@ abbrev pub HaveGaps : List Life → List ℕ → Type 0
 HaveGaps lives gaps = (i : ℕ) (life : Life) → i < length gaps → slice_get lives i ≡ Some life
     → (get_or gaps i 0 ≡ enqueue_gap lives i) × (enqueue_call life ≤ least_entered_by (drop i lives))
 
--- before any value
+-- no gap is found at first
 pub no_gaps : (lives : List Life) → HaveGaps lives []
 no_gaps lives i life below at = absurd (omega arith)
 
@@ -451,7 +451,7 @@ here_is [] x y rest (suc i) same at = absurd (omega arith)
 here_is (z ∷ done) x y rest zero same at = absurd (omega arith)
 here_is (z ∷ done) x y rest (suc i) same at = here_is done x y rest i (omega arith) at
 
--- one value more
+-- one more value has its gap
 pub one_gap_more : (done : List Life) (x : Life) (rest : List Life) (gaps : List ℕ) (time : ℕ) → length gaps ≡ length done
     → least_entered_by (x ∷ rest) ≡ time → enqueue_call x ≤ time → HaveGaps (done ++ x ∷ rest) gaps
     → HaveGaps (done ++ x ∷ rest) (gaps ++ (time - 1) ∷ [])
@@ -481,8 +481,8 @@ all_gaps lives gaps long have = (
   λ i life at. (have i life (omega (arith, long, slice_get_within lives i life at)) at).1,
 )
 
--- some values are done, of which each is the choice among itself and all that may come after it, and is called in time; with their gaps; none
--- of them overtakes another, or is overtaken
+-- the values that are done: each is the choice among itself and all that may come after it, is called in time and has
+-- its gap; none of them overtakes another value or is overtaken
 pub record IsOrderedSoFar (values done left : List MatchedValue) (gaps : List ℕ) : Type 0 where
   pub settled : (x a : MatchedValue) → Contains values x → Contains values a → Contains done x ⊎ Contains done a → ¬ (Overtakes x.life a.life)
   pub holds_each_once : IsPermutation values (done ++ left)
@@ -500,7 +500,7 @@ none_ordered values = record {
   have_gaps = λ rest moved. no_gaps rest;
 }
 
--- the choice among those left comes next, which is called before the first of these has entered
+-- the choice among those left comes next if it is called before the first of these has entered
 pub ordered_more : (values done left left' : List MatchedValue) (x : MatchedValue) (first : Life) (time : ℕ) (gaps : List ℕ)
     → IsOrderedSoFar values done left gaps → IsPermutation left (x ∷ left') → IsChoice (lives_in left) x.life
     → IsLeastBy entered_by (lives_in left) first → entered_by first ≤ NEVER → time ≡ entered_by first → enqueue_call x.life ≤ time
@@ -590,7 +590,7 @@ flags_within number values entries taken are same k d within =
     let m = from_some_and (slice_get values (get_or entries k d).place) (λ m. (get_or entries k d).time ≡ number m.life) (are.are_timed k d within) in
     omega (arith, slice_get_within values (get_or entries k d).place m.0 m.1)
 
--- one value more is swept
+-- one more value is swept
 pub swept_next : (values : List MatchedValue) (entries dequeues : List Timed) (taken : List Bool) (i j first_in first_out : ℕ) (order : List Timed)
     (place : ℕ) (entry : Timed) (next : IsNext values taken place) → IsSwept values entries dequeues taken i j (places_in order) (gaps_in order)
     → IsFirstLeft entries taken first_in → IsFirstLeft dequeues taken first_out → (least : IsLeastLeft entered_by values taken entry)
@@ -637,7 +637,7 @@ all_swept values entries dequeues taken i j order swept all =
       in_time = gaps.1;
     }
 
--- the choice among those left is called after one of these has entered
+-- the choice among those left is passed over if it is called after one of these has entered
 pub met_passed_over : (values : List MatchedValue) (taken : List Bool) (done : List MatchedValue) (gaps : List ℕ) (place : ℕ) (entry : Timed)
     (next : IsNext values taken place) → IsOrderedSoFar values done (left_of values taken) gaps → (least : IsLeastLeft entered_by values taken entry)
     → entry.time < enqueue_call next.value.life → IsPassedOver values next.value
@@ -659,7 +659,7 @@ met_passed_over values taken done gaps place entry next so_far least late = reco
       ];
 }
 
--- put in order, the places of the accepted values are in the chosen order
+-- once the values are in order, their places are in the chosen order of the history
 pub places_in_order : (history : Contents) (values : List MatchedValue) (order : List Timed) → HoldsValues history values
     → IsInOrder values order → IsOrderOf history order
 places_in_order history values order holds is =

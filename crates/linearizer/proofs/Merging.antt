@@ -1,4 +1,4 @@
--- The operations of the values are listed at their positions, and three lists that rise are merged by the positions of theirs.
+-- The operations of the values are listed at their positions, and three rising lists are merged by position.
 use Rattle.value_match.specs.declared.life.Source.{Source}
 use Rattle.value_match.specs.declared.life.Source.TheVariants as source
 use Rattle.value_match.specs.Times.{initial_enqueue, initial_time}
@@ -35,14 +35,14 @@ fold_max-append : (a : ℕ) (xs ys : List ℕ) → fold max a (xs ++ ys) ≡ fol
 fold_max-append a [] ys = refl
 fold_max-append a (x ∷ xs) ys = fold_max-append (max a x) xs ys
 
--- one more in the midst of a list
+-- one more element in the middle of a list
 pub one_more_among : {X : Type 0} (xs ys zs : List X) (x : X) → IsPermutation (xs ++ ys) zs → IsPermutation ((xs ++ x ∷ []) ++ ys) (zs ++ x ∷ [])
 one_more_among xs ys zs x moved = subst (λ l. IsPermutation l (zs ++ x ∷ [])) (sym (append_assoc xs (x ∷ []) ys))
     (IsPermutation-trans _ _ _ (IsPermutation-middle xs x ys)
     (IsPermutation-trans _ _ _ (IsPermutation-cons x _ zs moved)
     (IsPermutation-sym _ _ (IsPermutation-to_front zs x))))
 
--- where a dequeue stands that is placed at the greatest of these times
+-- the position of a dequeue placed at the greatest of these times
 pub dequeue_stands : (lives : List Life) (i gap left later : ℕ) (position : Stored) → gap ≡ enqueue_gap lives i
     → left ≡ greatest_leaves_from (take (i + 1) lives) → later ≡ max left gap
     → position_of position ≡ record { gap = later; class = (if nat_lt gap later then earlier_dequeues else other_dequeues); rank = i }
@@ -51,7 +51,7 @@ dequeue_stands lives i gap left later position gap_is left_is later_is stands =
     let last : later ≡ dequeue_gap lives i = omega (arith, later_is, left_is, gap_is) in
     rw (← last, ← gap_is) stands
 
--- one value more
+-- one more value
 module _ (lives : List Life) (i : ℕ) (life : Life) (at : slice_get lives i ≡ Some life) where
   pub greatest_more : greatest_leaves_from (take (i + 1) lives) ≡ max (greatest_leaves_from (take i lives)) (leaves_from life)
   greatest_more =
@@ -64,7 +64,7 @@ module _ (lives : List Life) (i : ℕ) (life : Life) (at : slice_get lives i ≡
   dequeues_more : dequeues_of (take (i + 1) lives) ≡ dequeues_of (take i lives) ++ cons_option (dequeue_of life) []
   dequeues_more = ap dequeues_of (take_next lives i life at) ∙ filter_map-append dequeue_of (take i lives) (life ∷ [])
 
--- what is known at the turn of a value: whence it comes and where its dequeue stands, and the gap of its enqueue
+-- what is known when a value has its turn: its origin, the position of its dequeue, and the gap of its enqueue
 pub record IsTurn (history : Contents) (lives : List Life) (i : ℕ) (m : MatchedValue) (gap : ℕ) : Type 0 where
   pub few : length history.initial ≤ MAX_INITIAL
   pub order : IsValueOrder (on (timeline_of history)) lives
@@ -74,7 +74,7 @@ pub record IsTurn (history : Contents) (lives : List Life) (i : ℕ) (m : Matche
 
 module _ (history : Contents) (values : List MatchedValue) (order : List Timed) (i : ℕ) (t : Timed) (clear : IsClear (course_of history))
     (holds : HoldsValues history values) (is : IsOrderOf history order) (at : slice_get order i ≡ Some t) where
-  -- the value that is read in a turn
+  -- the value read in a turn
   read : IsValueAt history values order i t.place
   read = value_at history values order i t holds is at
 
@@ -82,7 +82,7 @@ module _ (history : Contents) (values : List MatchedValue) (order : List Timed) 
   pub turn_within : t.place < length values
   turn_within = slice_get_within values t.place read.value read.is_at
 
-  -- the turn, by what is read in it
+  -- the facts of a turn, from what is read in it
   pub turn_is : (m : MatchedValue) → m ≡ get_or values t.place m → IsTurn history (ordered_lives history order) i m t.time
   turn_is m reads =
       let same = reads ∙ get_or_from_slice_get values t.place read.value m read.is_at in
@@ -103,7 +103,7 @@ module _ (history : Contents) (values : List MatchedValue) (order : List Timed) 
 pub nothing_placed : (history : Contents) (lives : List Life) → HoldsUpTo history lives 0 0 0 []
 nothing_placed history lives = record { left_is = refl; each_once = IsPermutation-refl []; each_placed = All-nil (IsPlaced history lives) }
 
--- all are placed
+-- all operations are placed
 pub all_placed : (history : Contents) (order : List Timed) (i j left : ℕ) (placed : List Placed) → IsOrderOf history order
     → length order ≤ i → length order ≤ j → HoldsUpTo history (ordered_lives history order) i j left placed → PlacesValues history placed
 all_placed history order i j left placed is all_in all_out so_far =
@@ -117,7 +117,7 @@ all_placed history order i j left placed is all_in all_out so_far =
       each_placed = so_far.each_placed;
     }
 
--- the enqueue that a value comes from has its place, that of an initial value none
+-- the enqueue that a value comes from has its place, that of an initial value has none
 source_told : (history : Contents) (source : Source) (o : Operation) → length history.initial ≤ MAX_INITIAL
     → IsSource history.initial history.operations source o → IsToldAt history.operations (told_of source) o
 source_told history (source.Enq place) o few at = at
@@ -132,11 +132,11 @@ module _ (history : Contents) (lives : List Life) (i : ℕ) (m : MatchedValue) (
   is : IsLife (on (timeline_of history)) m.life
   is = is_life (timeline_of history) lives turn.order m.life (contains_at lives i m.life turn.at)
 
-  -- where it stands
+  -- the placed enqueue
   abbrev pub enqueue_placed : Stored → Placed
   enqueue_placed position = record { operation = enqueue_of m.life; place = told_of m.source; position = position }
 
-  -- one enqueue more is placed
+  -- one more enqueue is placed
   pub enqueue_more : (j left : ℕ) (placed : List Placed) (position : Stored) → HoldsUpTo history lives i j left placed
       → position_of position ≡ record { gap = gap; class = enqueues; rank = i }
       → HoldsUpTo history lives (i + 1) j left (placed ++ enqueue_placed position ∷ [])
@@ -156,7 +156,7 @@ module _ (history : Contents) (lives : List Life) (i : ℕ) (m : MatchedValue) (
 -- the turn of the next dequeue
 module _ (history : Contents) (lives : List Life) (j : ℕ) (m : MatchedValue) (gap left left' : ℕ) (turn : IsTurn history lives j m gap)
     (left_is : left' ≡ max (leaves_from m.life) left) (i : ℕ) (placed : List Placed) (so_far : HoldsUpTo history lives i j left placed) where
-  -- the gap is the greatest that the values up to the next dequeue leave from
+  -- the time from which all values up to the next dequeue can have left
   pub left_more : left' ≡ greatest_leaves_from (take (j + 1) lives)
   left_more = let more = greatest_more lives j m.life turn.at in omega (arith, more, left_is, so_far.left_is)
 
@@ -174,7 +174,7 @@ module _ (history : Contents) (lives : List Life) (j : ℕ) (m : MatchedValue) (
     each_placed = All-append (IsPlaced history lives) placed rest so_far.each_placed each;
   }
 
-  -- a value that is never dequeued has its turn, and nothing is placed
+  -- a value that is never dequeued has its turn without placing anything
   pub turn_alone : m.dequeue ≡ None → HoldsUpTo history lives i (j + 1) left' placed
   turn_alone none = subst (HoldsUpTo history lives i (j + 1) left') (append-nil placed)
       (with_rest [] (nothing m.dequeue (dequeue_of m.life) none turn.named.1) (All-nil (IsPlaced history lives)))
@@ -185,7 +185,7 @@ module _ (history : Contents) (lives : List Life) (j : ℕ) (m : MatchedValue) (
       nothing None (Some d) same at = absurd at
       nothing (Some p) dequeue same at = cc
 
-  -- one dequeue more is placed
+  -- one more dequeue is placed
   pub turn_with_dequeue : (p later : ℕ) (position : Stored) → m.dequeue ≡ Some p → later ≡ max left' gap
       → position_of position ≡ record { gap = later; class = (if nat_lt gap later then earlier_dequeues else other_dequeues); rank = j }
       → (d : Operation) × HoldsUpTo history lives i (j + 1) left' (placed ++ record { operation = d; place = Some p; position = position } ∷ [])
@@ -210,9 +210,9 @@ module _ (history : Contents) (lives : List Life) (j : ℕ) (m : MatchedValue) (
                 ) (All-nil (IsPlaced history lives))),
           )
 
--- ---- three lists in one
+-- ---- three lists merged into one
 
--- of positions that rise none of the later ones stands before one
+-- in a list of rising positions, no later position stands before an earlier one
 none_later : (at : ℕ → Position) (count i : ℕ) (p : Position) → ((i j : ℕ) → i < j → j < count → StandsBefore (at i) (at j))
     → ((n : ℕ) × (i ≤ n) × (n < count) × (p ≡ at n)) → ¬ (StandsBefore p (at i))
 none_later at count i p rise (n, above, within, is) before =
@@ -222,7 +222,7 @@ none_later at count i p rise (n, above, within, is) before =
       | inr here ↦ let same : n ≡ i = omega arith in not_itself (at i) (subst (λ k. StandsBefore (at k) (at i)) same there)
     ]
 
--- of the enqueues and of the dequeues the next stands first
+-- no enqueue that is left stands before the next
 pub next_enqueue : (lives : List Life) (i : ℕ) (p : Position) → IsEnqueueFrom lives i p → ¬ (StandsBefore p (enqueue_position lives i))
 next_enqueue lives i p from = none_later (enqueue_position lives) (length lives) i p
     (enqueues_rise (length lives) (enqueue_gap lives) (dequeue_gap lives) (are_gaps lives)) from
@@ -232,7 +232,7 @@ pub next_dequeue : (lives : List Life) (j : ℕ) (p : Position) → IsDequeueFro
 next_dequeue lives j p from = none_later (dequeue_position lives) (length lives) j p
     (dequeues_rise (length lives) (enqueue_gap lives) (dequeue_gap lives) (are_gaps lives)) from
 
--- of the no-ops too
+-- no no-op that is left stands before the next
 pub next_noop : (noops : List Placed) (k : ℕ) (x : Placed) (p : Position) → NeverFall noops → slice_get noops k ≡ Some x → IsNoopFrom noops k p
     → ¬ (StandsBefore p (position_of x.position))
 next_noop noops k x p never at (n, y, above, at_n, is) before =
@@ -245,10 +245,10 @@ next_noop noops k x p never at (n, y, above, at_n, is) before =
           not_itself (position_of x.position) (subst (λ z. StandsBefore (position_of z.position) (position_of x.position)) one there)
     ]
 
--- one operation more, than which none of those ahead stands before
+-- one more operation, which no operation ahead stands before
 module _ (history : Contents) (lives : List Life) (noops : List Placed) (i j left k : ℕ) (places : List ℕ)
     (merged : IsMergedUpTo history lives noops i j left k places) where
-  -- the merged list grows by an operation before which none of those ahead stands
+  -- the merged list grows by an operation which no operation ahead stands before
   grown : (i' j' left' k' : ℕ) (x : Placed) (values' : List Placed) → HoldsUpTo history lives i' j' left' values'
       → IsPermutation ((merged.values ++ take k noops) ++ x ∷ []) (values' ++ take k' noops) → IsAhead lives noops i j k (position_of x.position)
       → ((p : Position) → IsAhead lives noops i' j' k' p → IsAhead lives noops i j k p × ¬ (StandsBefore p (position_of x.position)))
@@ -266,7 +266,7 @@ module _ (history : Contents) (lives : List Life) (noops : List Placed) (i j lef
     places_are = ap (λ ps. ps ++ cons_option x.place []) merged.places_are ∙ sym (filter_map-append (λ p. p.place) merged.sorted (x ∷ []));
   }
 
-  -- a value more, without a dequeue that is placed
+  -- one more value, without a placed dequeue
   pub passed : (left' : ℕ) → HoldsUpTo history lives i (j + 1) left' merged.values → IsMergedUpTo history lives noops i (j + 1) left' k places
   passed left' held = record {
     values = merged.values;
@@ -286,7 +286,7 @@ module _ (history : Contents) (lives : List Life) (noops : List Placed) (i j lef
   value_moved : (x : Placed) → IsPermutation ((merged.values ++ take k noops) ++ x ∷ []) ((merged.values ++ x ∷ []) ++ take k noops)
   value_moved x = IsPermutation-sym _ _ (one_more_among _ _ _ x (IsPermutation-refl _))
 
-  -- the next dequeue, past the no-ops and the enqueues that are left
+  -- the next dequeue is added, once the no-ops and enqueues before it are
   pub dequeue_added : (left' : ℕ) (x : Placed) → HoldsUpTo history lives i (j + 1) left' (merged.values ++ x ∷ []) → j < length lives
       → position_of x.position ≡ dequeue_position lives j
       → NoneBelow (IsEnqueueFrom lives i) (Some x.position) → NoneBelow (IsNoopFrom noops k) (Some x.position)
@@ -301,7 +301,7 @@ module _ (history : Contents) (lives : List Life) (noops : List Placed) (i j lef
           (inl (inr from), subst (λ q. ¬ (StandsBefore p q)) (sym stands) (next_dequeue lives j p from))
       still p (inr is) = (inr is, noops_after p is)
 
-  -- the next enqueue, past the dequeues and the no-ops that are left
+  -- the next enqueue is added, once the dequeues and no-ops before it are
   pub enqueue_added : (x : Placed) → HoldsUpTo history lives (i + 1) j left (merged.values ++ x ∷ []) → i < length lives
       → position_of x.position ≡ enqueue_position lives i
       → NoneBelow (IsDequeueFrom lives j) (Some x.position) → NoneBelow (IsNoopFrom noops k) (Some x.position)
@@ -316,7 +316,7 @@ module _ (history : Contents) (lives : List Life) (noops : List Placed) (i j lef
       still p (inl (inr is)) = (inl (inr is), dequeues p is)
       still p (inr is) = (inr is, noops_after p is)
 
-  -- the next no-op, past the values that are left
+  -- the next no-op is added, once the values' operations before it are
   pub noop_added : (x : Placed) → NeverFall noops → slice_get noops k ≡ Some x → NoneBelow (IsValueFrom lives i j) (Some x.position)
       → IsMergedUpTo history lives noops i j left (k + 1) (places ++ cons_option x.place [])
   noop_added x never at values = grown i j left _ x _ merged.held
@@ -341,7 +341,7 @@ nothing_merged history lives noops = record {
   places_are = refl;
 }
 
--- an operation that does not stand after the limit has none below it of which none is below the limit
+-- an operation that doesn't stand after the limit has none before it if nothing stands before the limit
 pub below_next : (Is : Position → Type 0) (limit : Option Stored) (x : Stored) (told : Bool)
     → MatchOption limit (told ≡ false) (λ q. IsTrue told ↔ StandsBefore (position_of q) (position_of x)) → told ≡ false
     → NoneBelow Is limit → NoneBelow Is (Some x)
@@ -349,7 +349,7 @@ below_next Is None x told tells not none p is = absurd (none p is)
 below_next Is (Some q) x told tells not none p is =
     through p (position_of q) (position_of x) (none p is) (λ before. let yes : told ≡ true = tells.1 before in cc)
 
--- none is below the limit where none stands before an operation that stands after it
+-- nothing stands before the limit if nothing stands before an operation that stands after it
 pub below_limit : (Is : Position → Type 0) (limit : Option Stored) (x : Stored) (told : Bool)
     → MatchOption limit (told ≡ false) (λ q. IsTrue told ↔ StandsBefore (position_of q) (position_of x)) → told ≡ true
     → NoneBelow Is (Some x) → NoneBelow Is limit
@@ -357,7 +357,7 @@ below_limit Is None x told tells is_after none p is = cc
 below_limit Is (Some q) x told tells is_after none p is =
     λ before. none p is (before_through p (position_of q) (position_of x) before (tells.0 is_after))
 
--- where no limit is, nothing is left
+-- without a limit no dequeue is left
 all_dequeued : (lives : List Life) (j : ℕ) → NoneBelow (IsDequeueFrom lives j) None → length lives ≤ j
 all_dequeued lives j none = elim (cases_lt j (length lives)) [
   | inr all ↦ all

@@ -1,4 +1,4 @@
--- There is one chosen order, and one only.
+-- There is exactly one chosen order.
 use Rattle.history_merge.proofs.Timelines.{later_injective}
 use Rattle.history_merge.specs.declared.packed.TheConstants.{PACKED_LIMIT}
 use Rattle.linearizer.proofs.Common.{Adds, Agree, All, All-cons, All-head, All-nil, All-permutation, All-tail}
@@ -122,9 +122,9 @@ pub chosen_order_is_legal : (operations order : List Operation) → IsClear (on 
     → IsLegalOrder [] operations order
 chosen_order_is_legal operations order clear none chosen = legal operations order clear none chosen
 
--- ---- there is one chosen order, and one only
+-- ---- there is exactly one chosen order
 
--- of two positions one stands before the other, or they are one
+-- two positions are equal, or one stands before the other
 compared : (p q : Position) → StandsBefore p q ⊎ ((p ≡ q) ⊎ StandsBefore q p)
 compared p q = grind arith
 
@@ -227,7 +227,7 @@ chosen_order_exists operations gaps clear none free =
           (pairs_map (λ p q. ¬ (StandsBefore q p)) (λ z. z.1) sorted.0 sorted.2),
     )
 
--- a list of which each element comes before those after it is the only one of its elements, where no two come before each other
+-- a list sorted by an antisymmetric relation is the only such list of its elements
 pub one_list : {X : Type 0} (Before : X → X → Type 0) → ((x y : X) → Before x y → Before y x → ⊥) → (xs ys : List X) → AllPairs Before xs
     → AllPairs Before ys → ((x : X) → Contains xs x → Contains ys x) → ((x : X) → Contains ys x → Contains xs x) → xs ≡ ys
 one_list Before one_way [] [] rise_x rise_y into back = refl
@@ -252,9 +252,9 @@ one_list {X} Before one_way (x ∷ xs) (y ∷ ys) rise_x rise_y into back =
     behind y ys z (inl same) before = absurd (one_way z z (subst (λ w. Before w z) same before) (subst (λ w. Before w z) same before))
     behind y ys z (inr among) before = among
 
--- ---- the same of a history by its own course
+-- ---- the same for a history by its own course
 
--- where an operation stands in a course it stands in one that agrees with it
+-- courses that agree give an operation the same position
 pub position_along : (c d : Course) → Agree c d → (lives : List Life) (o : Operation) (k : OpKind) (p : Position) → IsPositionFor c lives o k p
     → IsPositionFor d lives o k p
 position_along c d agree _ o (Enq v) p at = at
@@ -262,7 +262,7 @@ position_along c d agree _ o (Deq v) p at = at
 position_along c d agree _ o Empty p at = (at.0, least_of c d agree o at.0 at.1, at.2)
 position_along c d agree _ o (Not v) p at = at
 
--- x and y have positions, the first before the second
+-- x and y have positions, and that of x stands before that of y
 abbrev AreBefore : Course → List Life → Operation → Operation → Type 0
 AreBefore c lives x y = (p : Position) × (q : Position) × IsPositionOf c lives x p × IsPositionOf c lives y q × StandsBefore p q
 
@@ -276,7 +276,7 @@ module _ (c : Course) (operations : List Operation) (agree : Agree c (on operati
       R : Operation → Position → Type 0
       R o position = IsPositionOf c chosen.lives o position
 
-  -- there is one
+  -- a history with initial values has one chosen order
   order_is_one : (xs ys : List Operation) → IsClear (on operations) → IsChosenOrder c xs → IsChosenOrder c ys → xs ≡ ys
   order_is_one xs ys clear first second =
       let lives = values_have_one_order operations first.lives second.lives clear (value_order_along c (on operations) _ same_lives first.values_in_order)
@@ -299,7 +299,7 @@ module _ (c : Course) (operations : List Operation) (agree : Agree c (on operati
       one_way x y (p, q, at_p, at_q, before) (q', p', at_q', at_p', after) =
           not_both p q before (subst (λ r. StandsBefore q r) (one x p' p at_p' at_p) (subst (λ r. StandsBefore r p') (one y q' q at_q' at_q) after))
 
--- and one of a history
+-- the chosen order of a history is unique
 pub one_chosen_order : (initial : List ℕ) (operations xs ys : List Operation) → IsClear (course initial operations)
     → IsChosenOrder (course initial operations) (timed xs) → IsChosenOrder (course initial operations) (timed ys) → xs ≡ ys
 one_chosen_order initial operations xs ys clear first second = later_injective ORIGIN xs ys
@@ -308,7 +308,7 @@ one_chosen_order initial operations xs ys clear first second = later_injective O
 
 -- ---- each operation is an enqueue or the dequeue of one value, an empty dequeue, or a failed enqueue
 
--- the enqueues, and then the dequeues
+-- the operations of lives are the enqueues and the dequeues
 by_class : (lives : List Life) → IsPermutation (flat_map operations_of_life lives) (enqueues_of lives ++ dequeues_of lives)
 by_class [] = IsPermutation-refl []
 by_class (life ∷ lives) = IsPermutation-cons _ _ _ (step (dequeue_of life) (by_class lives))
@@ -325,7 +325,7 @@ moves_kind (Deq v) = true
 moves_kind Empty = false
 moves_kind (Not v) = false
 
--- whether the operation enqueued a value or dequeued one
+-- returns whether the operation enqueued or dequeued a value
 abbrev moves_value : Operation → Bool
 moves_value o = moves_kind o.kind
 
@@ -353,7 +353,7 @@ in_option : {X : Type 0} (o : Option X) (x : X) → Contains (option_to_list o) 
 in_option None x among = absurd (not_in_none x among)
 in_option (Some y) x among = elim (contains_cons y [] x among) [ inl same ↦ ap (λ x. Some x) same | inr nowhere ↦ absurd (not_in_none x nowhere) ]
 
--- the operations in a life are those of it
+-- each operation listed for a life belongs to it
 of_life : (life : Life) (o : Operation) → Contains (operations_of_life life) o → IsOf life o
 of_life life o among = elim (contains_cons (enqueue_of life) (option_to_list (dequeue_of life)) o among)
     [ inl enqueues ↦ inl enqueues | inr there ↦ inr (in_option (dequeue_of life) o there) ]
@@ -412,7 +412,7 @@ module _ (operations : List Operation) (clear : IsClear (on operations)) where
             let did = did_dequeue operations life o is dequeues in
             passes_filter moves_value operations o (ap moves_kind did.1) did.0
 
-    -- the operations by kind
+    -- the operations, sorted into four kinds
     pub each_once : AllPairs (λ x y. x.call < y.call) operations → IsPermutation operations
         (enqueues_of lives ++ dequeues_of lives ++ filter is_empty_answer operations ++ filter is_refused operations)
     each_once rise =
@@ -427,20 +427,20 @@ module _ (operations : List Operation) (clear : IsClear (on operations)) where
         (IsPermutation-append_left (filter is_refused operations) (here ++ filter is_empty_answer operations) (there ++ filter is_empty_answer operations)
         (IsPermutation-append_left (filter is_empty_answer operations) here there (IsPermutation-trans here by_value there moved (by_class lives))))
 
--- ---- sorted by gap and place, the operations that change nothing never fall
+-- ---- the operations that change nothing, sorted by gap and place, never fall
 
 module _ (history : Contents) (clear : IsClear (course_of history)) where
   abbrev read : ℕ → Operation
   read place = operation_at history.operations place
 
-  -- what is read at a place that is in range stands there
+  -- the operation read at a place in range is that of the history
   stands_there : (p : ℕ) → IsCalledInRange history.operations p → IsOperation history.operations p (later_by ORIGIN (read p))
   stands_there p within =
       let o = from_some_and (slice_get history.operations p) (λ o. o.call + ORIGIN < PACKED_LIMIT) within in
       slice_get-map (later_by ORIGIN) history.operations p
       ∙ ap (option_map (later_by ORIGIN)) (o.1 ∙ ap Some (sym (get_or_from_slice_get history.operations p o.0 _ o.1)))
 
-  -- operations come in the order of their calls
+  -- operations at rising places have rising calls
   calls_by_place : (p q : ℕ) → IsCalledInRange history.operations p → IsCalledInRange history.operations q → p ≤ q → (read p).call ≤ (read q).call
   calls_by_place p q in_p in_q at_most = elim (cases_lt p q) [
     | inl below ↦
@@ -483,7 +483,7 @@ module _ (history : Contents) (clear : IsClear (course_of history)) where
       let o = beside_second (IsNoopAt history) listed timed k (get_or timed k d) each (slice_get-get_or timed k d within) in
       called_in_range history clear (get_or timed k d).place o.0 o.2.at
 
-  -- and stands at its position
+  -- each of them has its position
   stand_placed : (listed : List Operation) (timed : List Timed) (lives : List Life) → AllZip (IsNoopAt history) listed timed
       → (listed ≡ placed_in (map (noop_at history.operations) timed)) × All (IsPlaced history lives) (map (noop_at history.operations) timed)
   stand_placed [] [] lives each = (refl, All-nil (IsPlaced history lives))
@@ -499,7 +499,7 @@ module _ (history : Contents) (clear : IsClear (course_of history)) where
         ) rest.1,
       )
 
-  -- the empty answers and the refused enqueues
+  -- the empty dequeues and the failed enqueues
   module _ (first all : List Timed) (empties : Adds history (filter is_empty_answer (timed history.operations)) [] first)
       (refused : Adds history (filter is_refused (timed history.operations)) first all) where
     both : AllZip (IsNoopAt history) (noops_in history) all
@@ -507,11 +507,11 @@ module _ (history : Contents) (clear : IsClear (course_of history)) where
         (sym (refused.after ∙ ap (λ xs. xs ++ refused.added) empties.after)) (zip_joined (IsNoopAt history) _ _ _ _
         empties.each_stands refused.each_stands)
 
-    -- in any order they are operations
+    -- they are operations, in any order
     pub noops_within : (sorted : List Timed) → IsPermutation all sorted → All (λ timed. IsCalledInRange history.operations timed.place) sorted
     noops_within sorted moved = All-permutation (λ timed. IsCalledInRange history.operations timed.place) all sorted moved (stands_within _ all both)
 
-    -- sorted by gap and place, they are those that are merged
+    -- sorted by gap and place, they are the list that is merged
     pub noops_held : (sorted : List Timed) → IsPermutation all sorted → NeverFall (map (noop_at history.operations) sorted)
         → HoldsNoops history (map (noop_at history.operations) sorted)
     noops_held sorted moved never =

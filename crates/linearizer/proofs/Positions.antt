@@ -1,4 +1,5 @@
--- What the positions of the operations tell; at a free gap a value that has entered has left, and so has each value before it.
+-- What the positions of the operations imply. At a free gap each value that has entered has left, and so has each
+-- value before it.
 use Rattle.linearizer.proofs.Common.{[], AllZip, ap, AreLeastFreeGaps, arith, call_or_never, cases_lt, Contains}
 use Rattle.linearizer.proofs.Common.{contains_cons, Deq, dequeue_call, dequeue_gap, dequeue_of, dequeue_position}
 use Rattle.linearizer.proofs.Common.{dequeue_return, dequeued_if_called, Did, did_dequeue, drop, Empty, Enq}
@@ -19,7 +20,7 @@ use Rattle.linearizer.proofs.Elements.{beside_first}
 use Rattle.linearizer.proofs.Runs.{AreGaps, enqueue_is_no_dequeue, IsItem, noop_is_no_dequeue, noop_is_no_enqueue}
 use Rattle.history_merge.proofs.Lists.{at_place}
 
--- ---- the gaps of the enqueues and dequeues rise along the order of the values, and lie in their windows
+-- ---- the gaps of the enqueues and dequeues rise along the order of values, and lie in their windows
 
 -- the least of a number and others is at most it
 least_below_start : (a : ℕ) (xs : List ℕ) → fold min a xs ≤ a
@@ -35,7 +36,7 @@ least_at_least : (a b : ℕ) (xs : List Life) → b ≤ a → ((j : ℕ) (y : Li
 least_at_least a b [] le each = le
 least_at_least a b (x ∷ xs) le each = let here = each zero x refl in least_at_least (min a (entered_by x)) b xs (omega arith) (λ j y at. each (suc j) y at)
 
--- a number that is at most the entry of each value from place i on is at most the least of them
+-- a lower bound of the entries from place i on is at most the least of them
 pub at_most_least : (lives : List Life) (i b : ℕ) → b ≤ NEVER → ((j : ℕ) (y : Life) → i ≤ j → slice_get lives j ≡ Some y → b ≤ entered_by y)
     → b ≤ least_entered_by (drop i lives)
 at_most_least lives zero b le each = least_at_least NEVER b lives le (λ j y at. each j y (omega arith) at)
@@ -47,14 +48,14 @@ least_at_most a [] j y at = cc
 least_at_most a (x ∷ xs) zero y at = grind (arith, least_below_start (min a (entered_by x)) (map entered_by xs))
 least_at_most a (x ∷ xs) (suc j) y at = least_at_most (min a (entered_by x)) xs j y at
 
--- the least from place i on is at most the entry of each value from there on
+-- the least entry from place i on is at most each of them
 pub least_of_later : (lives : List Life) (i j : ℕ) (y : Life) → i ≤ j → slice_get lives j ≡ Some y → least_entered_by (drop i lives) ≤ entered_by y
 least_of_later lives zero j y le at = least_at_most NEVER lives j y at
 least_of_later [] (suc i) j y le at = cc
 least_of_later (x ∷ lives) (suc i) zero y le at = absurd (omega arith)
 least_of_later (x ∷ lives) (suc i) (suc j) y le at = least_of_later lives i j y (omega arith) at
 
--- a number above a start and above what each of the first k values leaves from is above the greatest of them
+-- a strict upper bound of the start and of what the first k values leave from is above the greatest
 greatest_below : (a b : ℕ) (lives : List Life) (k : ℕ) → a < b → ((j : ℕ) (y : Life) → j < k → slice_get lives j ≡ Some y → leaves_from y < b)
     → fold max a (map leaves_from (take k lives)) < b
 greatest_below a b lives zero less each = less
@@ -62,7 +63,7 @@ greatest_below a b [] (suc k) less each = less
 greatest_below a b (x ∷ lives) (suc k) less each = let here = each zero x (omega arith) refl in
     greatest_below (max a (leaves_from x)) b lives k (omega arith) (λ j y below at. each (suc j) y (omega arith) at)
 
--- where all leave before a time, the greatest is before it
+-- if all values leave before a time, the greatest is before it
 pub below_greatest : (lives : List Life) (i b : ℕ) → 0 < b → ((j : ℕ) (y : Life) → j ≤ i → slice_get lives j ≡ Some y → leaves_from y < b)
     → greatest_leaves_from (take (i + 1) lives) < b
 below_greatest lives i b above each = greatest_below 0 b lives (i + 1) above (λ j y below at. each j y (omega arith) at)
@@ -75,12 +76,12 @@ greatest_at_least a (x ∷ lives) (suc k) zero y below at =
     grind (arith, greatest_above_start (max a (leaves_from x)) (map leaves_from (take k lives)))
 greatest_at_least a (x ∷ lives) (suc k) (suc j) y below at = greatest_at_least (max a (leaves_from x)) lives k j y (omega arith) at
 
--- a value of the first ones leaves no later than the greatest
+-- each of the first values leaves no later than the greatest
 pub greatest_of_first : (lives : List Life) (i j : ℕ) (y : Life) → j ≤ i → slice_get lives j ≡ Some y
     → leaves_from y ≤ greatest_leaves_from (take (i + 1) lives)
 greatest_of_first lives i j y le at = greatest_at_least 0 lives (i + 1) j y (omega arith) at
 
--- all gaps rise along the order
+-- the gaps rise along the order
 pub gaps_rise : (lives : List Life) (i j : ℕ) → i ≤ j
     → (enqueue_gap lives i ≤ enqueue_gap lives j) × (dequeue_gap lives i ≤ dequeue_gap lives j) × (enqueue_gap lives i ≤ dequeue_gap lives i)
 gaps_rise lives i j le =
@@ -90,7 +91,7 @@ gaps_rise lives i j le =
     (λ k y below at. let leaves = greatest_of_first lives j k y (omega arith) at in omega arith) in
     (omega arith, omega arith, omega arith)
 
--- the gap comes no sooner than just before the operation's call, and before its return
+-- the gap is at the earliest just before the operation's call, and before its return
 abbrev pub IsAround : Operation → ℕ → Type 0
 IsAround o c = (o.call ≤ c + 1) × (c < o.ret)
 
@@ -100,7 +101,7 @@ module _ (operations : List Operation) (lives : List Life) (clear : IsClear (on 
   called_before_entered i j x y le at_x at_y =
       let may = may_stand_before operations lives i j x y clear none order le at_x at_y in omega (arith, may.0)
 
-  -- the gap of an enqueue lies in its window, or just before, if it returns at its call
+  -- the gap of an enqueue lies in its window, or just before it, if the enqueue returns at its call
   pub enqueue_gap_in_window : (i : ℕ) (life : Life) → slice_get lives i ≡ Some life → IsAround (enqueue_of life) (enqueue_gap lives i)
   enqueue_gap_in_window i life at =
       let times = times_of_life operations life clear (is_life_at operations lives i life order at) in
@@ -130,7 +131,7 @@ module _ (operations : List Operation) (lives : List Life) (clear : IsClear (on 
       let least = least_of_later lives i i life (omega arith) at in
       (omega arith, omega arith)
 
--- at a free gap a value that has entered has left
+-- at a free gap each value that has entered has left
 entered_has_left : (operations : List Operation) (life : Life) (c : ℕ) → IsClear (on operations) → IsLife (on operations) life → IsFreeGap (on operations) c
     → entered_by life ≤ c → leaves_from life ≤ c
 entered_has_left operations life c clear is free entered =
@@ -140,7 +141,7 @@ entered_has_left operations life c clear is free entered =
       | inl stays ↦ elim (cases_lt c (enqueue_return life)) [ inl sooner ↦ omega arith | inr returned ↦ absurd (free life is (returned, stays)) ]
     ]
 
--- a value before one that has entered has left
+-- each value before one that has entered has left
 pub left_before_entered : (operations : List Operation) (lives : List Life) (c i j : ℕ) (x y : Life) → IsClear (on operations) → IsValueOrder (on operations) lives
     → IsFreeGap (on operations) c → i ≤ j → slice_get lives i ≡ Some x → slice_get lives j ≡ Some y → entered_by y ≤ c → leaves_from x ≤ c
 left_before_entered operations lives c i j x y clear order free le at_x at_y entered =
@@ -155,7 +156,7 @@ left_before_entered operations lives c i j x y clear order free le at_x at_y ent
     let times_b = times_of_life operations b clear is_b in
     elim (made turn.remaining x turn.is_choice) [ inl taken ↦ rw taken.1 (omega arith) | inr taken ↦ rw taken.1 left ]
 
--- the value at a place of the order of values, and that it is dequeued
+-- the value at this place of the order is v
 abbrev pub HoldsValue : List Life → ℕ → ℕ → Type 0
 HoldsValue lives i v = (life : Life) × (slice_get lives i ≡ Some life) × ((enqueue_of life).kind ≡ Enq v)
 
@@ -163,7 +164,7 @@ HoldsValue lives i v = (life : Life) × (slice_get lives i ≡ Some life) × ((e
 abbrev pub IsDequeued : List Life → ℕ → Type 0
 IsDequeued lives i = (life : Life) × (d : Operation) × (slice_get lives i ≡ Some life) × (dequeue_of life ≡ Some d)
 
--- what a position says of an operation of this kind
+-- the position of an operation of this kind in the order of the lives
 abbrev pub IsItemOf : List Life → OpKind → Position → Type 0
 IsItemOf lives = IsItem (length lives) (enqueue_gap lives) (dequeue_gap lives) (HoldsValue lives) (IsDequeued lives)
 
@@ -175,14 +176,14 @@ are_gaps lives = record {
   enters_first = λ i within. (gaps_rise lives i i (omega arith)).2;
 }
 
--- one value stands at a place of the order
+-- each place of the order holds one value
 pub one_value : (lives : List Life) (i v w : ℕ) → HoldsValue lives i v → HoldsValue lives i w → v ≡ w
 one_value lives i v w x y =
     let one = one_at lives i x.0 y.0 x.1 y.1 in
     let kinds : Enq v ≡ Enq w = sym x.2 ∙ ap (λ l. (enqueue_of l).kind) one ∙ y.2 in
     cc
 
--- a value before one that is dequeued is dequeued
+-- each value before a dequeued one is dequeued
 pub dequeued_first : (operations : List Operation) (lives : List Life) → IsClear (on operations) → NoOrderViolation (on operations) → IsValueOrder (on operations) lives
     → (i j : ℕ) → i ≤ j → j < length lives → IsDequeued lives j → IsDequeued lives i
 dequeued_first operations lives clear none order i j le within (y, d, at_y, dequeues) =
@@ -192,7 +193,7 @@ dequeued_first operations lives clear none order i j le within (y, d, at_y, dequ
     let found = dequeued_if_called x.0 (omega (arith, may.1, returned)) in
     (x.0, found.0, x.1, found.1)
 
--- where the least of the entries is reached, one of them is
+-- if the least entry is reached, one of the entries is
 reached_by_one : (a c : ℕ) (xs : List Life) → c < a → fold min a (map entered_by xs) ≤ c → (j : ℕ) × (y : Life) × (slice_get xs j ≡ Some y) × (entered_by y ≤ c)
 reached_by_one a c [] less le = absurd (omega arith)
 reached_by_one a c (x ∷ xs) less le =
@@ -209,7 +210,7 @@ entered_later [] (suc i) c less le = absurd (omega arith)
 entered_later (x ∷ lives) (suc i) c less le = let more = entered_later lives i c less le in (suc more.0, more.1, omega (arith, more.2), more.3, more.4)
 
 module _ (operations : List Operation) (lives : List Life) (clear : IsClear (on operations)) (order : IsValueOrder (on operations) lives) where
-  -- the values enqueued before a free gap are all dequeued by then
+  -- each value enqueued before a free gap is dequeued by then
   gone_at_free_gap : (c : ℕ) → IsFreeGap (on operations) c → c < NEVER → (i : ℕ) → i < length lives → enqueue_gap lives i < c
       → (dequeue_gap lives i ≤ c) × IsDequeued lives i
   gone_at_free_gap c free in_range i within entered =
@@ -243,7 +244,7 @@ module _ (operations : List Operation) (lives : List Life) (clear : IsClear (on 
       subst (IsItemOf lives Empty) (sym stands.2) (refl, gone_at_free_gap stands.0 stands.1.is_free early)
   item_of o among (Not v) is position stands = ap (λ p. p.class) stands
 
-  -- the positions of the operations say what they did
+  -- the operations and their positions are a run of items
   pub items_of : (os : List Operation) (positions : List Position) → ((o : Operation) → Contains os o → Contains operations o)
       → AllZip (λ o position. IsPositionOf (on operations) lives o position) os positions → AllZip (IsItemOf lives) (map (λ o. o.kind) os) positions
   items_of [] [] among stands = stands
@@ -259,7 +260,7 @@ module _ (operations : List Operation) (lives : List Life) (clear : IsClear (on 
 same_kind : (k l : OpKind) → (k ≡ l) ⊎ ¬ (k ≡ l)
 same_kind k l = grind arith
 
--- an operation did this, or none did
+-- some operation is of this kind, or none is
 one_did : (kind : OpKind) (operations : List Operation) → ((o : Operation) × Did operations o kind) ⊎ NoneDid operations kind
 one_did kind [] = inr (λ o among. absurd (not_in_none o among))
 one_did kind (x ∷ operations) = elim (same_kind x.kind kind) [
@@ -270,7 +271,7 @@ one_did kind (x ∷ operations) = elim (same_kind x.kind kind) [
   ]
 ]
 
--- what is dequeued was enqueued
+-- each dequeued value was enqueued
 enqueue_of_dequeued : (operations : List Operation) (o : Operation) (v : ℕ) → IsClear (on operations) → Did operations o (Deq v)
     → (e : Operation) × Did operations e (Enq v)
 enqueue_of_dequeued operations o v clear did = elim (one_did (Enq v) operations) [
@@ -321,7 +322,7 @@ module _ (operations : List Operation) (lives : List Life) (clear : IsClear (on 
       (noop_position o gap.0, (gap.0, gap.2, refl))
   has_position gaps free o among (Not v) is = (noop_position o o.call, refl)
 
-  -- an operation has no second position
+  -- an operation has only one position
   pub one_position : (o : Operation) (k : OpKind) (p q : Position) → IsPositionFor (on operations) lives o k p → IsPositionFor (on operations) lives o k q → p ≡ q
   one_position o (Enq v) p q at_p at_q =
       let one = one_life_of_enqueue operations at_p.1 at_q.1 clear (is_life_at operations lives at_p.0 at_p.1 order at_p.2)
@@ -338,11 +339,11 @@ module _ (operations : List Operation) (lives : List Life) (clear : IsClear (on 
       at_p.2 ∙ ap (noop_position o) gaps ∙ sym at_q.2
   one_position o (Not v) p q at_p at_q = at_p ∙ sym at_q
 
--- what stands in two equal options is equal
+-- the constructor of options is injective
 pub some_injective : {x y : Operation} → ◌≡◌ {A = Option Operation} (Some x) (Some y) → x ≡ y
 some_injective e = cc
 
--- the operation is an enqueue, a dequeue, or changes nothing, and its position shows which
+-- the operation is an enqueue, a dequeue, or changes nothing, as its position shows
 data Stands (lives : List Life) (o : Operation) (p : Position) : Type 0 where
   enters : (i : ℕ) (life : Life) → slice_get lives i ≡ Some life → enqueue_of life ≡ o → p ≡ enqueue_position lives i → Stands lives o p
   leaves : (i : ℕ) (life : Life) → slice_get lives i ≡ Some life → dequeue_of life ≡ Some o → p ≡ dequeue_position lives i → Stands lives o p
@@ -355,7 +356,7 @@ stands_as operations lives o (Deq v) p at = leaves at.0 at.1 at.2 at.3 at.4
 stands_as operations lives o Empty p at = noops at.0 at.2
 stands_as operations lives o (Not v) p at = noops o.call at
 
--- at a position stands one operation
+-- each position belongs to one operation
 module _ (operations : List Operation) (lives : List Life) (clear : IsClear (on operations)) (x y : Operation) (p : Position) (in_x : Contains operations x)
     (in_y : Contains operations y) where
   same_at : Stands lives x p → Stands lives y p → x ≡ y

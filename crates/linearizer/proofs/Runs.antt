@@ -7,7 +7,7 @@ use Rattle.linearizer.proofs.Common.{slice_get, Some, StandsBefore, subst, suc, 
 use Rattle.linearizer.proofs.Common.{◌≡◌, ◌≤◌}
 use Rattle.history_merge.proofs.Lists.{with_one_more, AllPairs-tail}
 
--- two positions don't stand before each other
+-- of two positions at most one stands before the other
 pub not_both : (p r : Position) → StandsBefore p r → StandsBefore r p → ⊥
 not_both p r before after = grind arith
 
@@ -15,27 +15,27 @@ not_both p r before after = grind arith
 pub not_itself : (p : Position) → StandsBefore p p → ⊥
 not_itself p before = grind arith
 
--- positions are in one order
+-- the order of positions is transitive
 pub before_through : (p q r : Position) → StandsBefore p q → StandsBefore q r → StandsBefore p r
 before_through p q r first second = grind arith
 
--- what does not stand before q does not stand before r, where r does not stand after q
+-- not standing before is transitive too
 pub through : (p q r : Position) → ¬ (StandsBefore p q) → ¬ (StandsBefore q r) → ¬ (StandsBefore p r)
 through p q r first second both = grind arith
 
--- where the enqueue and the dequeue of a value stand, by the gaps of both and the value's place
+-- the position of a value's enqueue, by the gaps of enqueues and the value's place
 abbrev pub enqueue_at : (ℕ → ℕ) → ℕ → Position
 enqueue_at enter i = record { gap = enter i; class = enqueues; rank = i }
 
--- the position of the dequeue of a value
+-- the position of a value's dequeue, by both gaps and the value's place
 abbrev pub dequeue_at : (ℕ → ℕ) → (ℕ → ℕ) → ℕ → Position
 dequeue_at enter leave i = record { gap = leave i; class = (if nat_lt (enter i) (leave i) then earlier_dequeues else other_dequeues); rank = i }
 
--- in one class the lower rank stands before
+-- at no later gap and class, the lower rank stands before the higher
 pub by_rank : (p r : Position) → p.gap ≤ r.gap → p.class ≤ r.class → p.rank < r.rank → StandsBefore p r
 by_rank p r le also less = grind arith
 
--- what is known of the gaps of n values: they rise, and no value is dequeued before it is enqueued
+-- facts about the gaps of n values: they rise, and no value is dequeued before it is enqueued
 pub record AreGaps (n : ℕ) (enter leave : ℕ → ℕ) : Type 0 where
   pub enter_rises : (i j : ℕ) → i ≤ j → j < n → enter i ≤ enter j
   pub leave_rises : (i j : ℕ) → i ≤ j → j < n → leave i ≤ leave j
@@ -58,19 +58,19 @@ module _ (n : ℕ) (enter leave : ℕ → ℕ) (gaps : AreGaps n enter leave) wh
   pub enqueued_before_dequeued : (i : ℕ) → i < n → StandsBefore (enqueue_at enter i) (dequeue_at enter leave i)
   enqueued_before_dequeued i within = let le = gaps.enters_first i within in grind (arith, nat_tests)
 
-  -- an enqueue is no dequeue, and an operation that changes nothing is neither
+  -- the position of an enqueue is not that of a dequeue
   pub enqueue_is_no_dequeue : (i j : ℕ) → ¬ (enqueue_at enter i ≡ dequeue_at enter leave j)
   enqueue_is_no_dequeue i j same = let classes : 2 ≡ (dequeue_at enter leave j).class = ap (λ p. p.class) same in grind (arith, nat_tests)
 
-  -- the position of an no-op is that of no enqueue
+  -- the position of a no-op is not that of an enqueue
   pub noop_is_no_enqueue : (p : Position) (i : ℕ) → p.class ≡ noop_answers → ¬ (p ≡ enqueue_at enter i)
   noop_is_no_enqueue p i noop same = let classes : p.class ≡ 2 = ap (λ p. p.class) same in omega arith
 
-  -- the position of an no-op is that of no dequeue
+  -- the position of a no-op is not that of a dequeue
   pub noop_is_no_dequeue : (p : Position) (i : ℕ) → p.class ≡ noop_answers → ¬ (p ≡ dequeue_at enter leave i)
   noop_is_no_dequeue p i noop same = let classes : p.class ≡ (dequeue_at enter leave i).class = ap (λ p. p.class) same in grind (arith, nat_tests)
 
--- what an operation of the run does, and where it stands: of n values the i-th holds v, and some are dequeued
+-- the kind and the position of an operation of the run; the i-th of n values is v, and some are dequeued
 abbrev pub IsItem : (n : ℕ) → (enter leave : ℕ → ℕ) → (ℕ → ℕ → Type 0) → (ℕ → Type 0) → OpKind → Position → Type 0
 IsItem n enter leave Holds Leaves (Enq v) position = (i : ℕ) × (i < n) × Holds i v × (position ≡ enqueue_at enter i)
 IsItem n enter leave Holds Leaves (Deq v) position = (i : ℕ) × (i < n) × Holds i v × Leaves i × (position ≡ dequeue_at enter leave i)
@@ -81,7 +81,7 @@ IsItem n enter leave Holds Leaves (Not v) position = position.class ≡ noop_ans
 past_first : (p x : Position) (xs : List Position) → ¬ (x ≡ p) → Contains (x ∷ xs) p → Contains xs p
 past_first p x xs differs among = elim (contains_cons x xs p among) [ inl same ↦ absurd (differs same) | inr there ↦ there ]
 
--- none of some positions stands before the first of them, if they rise
+-- in a rising list no position stands before the first
 none_sooner : (x q : Position) (xs : List Position) → All (StandsBefore x) xs → Contains (x ∷ xs) q → ¬ (StandsBefore q x)
 none_sooner x q xs rises among before = elim (contains_cons x xs q among) [
   | inl same ↦ not_itself x (subst (λ y. StandsBefore y x) (sym same) before)
@@ -93,7 +93,8 @@ first_rises x xs rise k d within = rise zero (suc k) d (omega arith) (omega arit
 
 module _ (n : ℕ) (enter leave : ℕ → ℕ) (gaps : AreGaps n enter leave) (Holds : ℕ → ℕ → Type 0) (one_value : (i v w : ℕ) → Holds i v → Holds i w → v ≡ w)
     (Leaves : ℕ → Type 0) (leaves_first : (i j : ℕ) → i ≤ j → j < n → Leaves j → Leaves i) where
-  -- between two operations of the run: d values have been dequeued, and of e values enqueued the others are in the queue
+  -- the state between two operations of the run: of e enqueued values d were dequeued, and the others are in the
+  -- queue
   record IsBetween (e d : ℕ) (queue : List ℕ) (positions : List Position) : Type 0 where
     in_order : d ≤ e
     within : e ≤ n
@@ -104,10 +105,10 @@ module _ (n : ℕ) (enter leave : ℕ → ℕ) (gaps : AreGaps n enter leave) (H
     dequeues_gone : (i : ℕ) → i < d → All (StandsBefore (dequeue_at enter leave i)) positions
     dequeues_left : (i : ℕ) → d ≤ i → i < n → Leaves i → Contains positions (dequeue_at enter leave i)
 
-  -- of positions that rise along the values the first e are gone, and one is the first of all that are left
+  -- the positions along the values rise, the first e of them are past, and x is the first of those that are left
   module _ (at : ℕ → Position) (e : ℕ) (x : Position) (xs : List Position) (gone : (i : ℕ) → i < e → All (StandsBefore (at i)) (x ∷ xs))
       (rises : All (StandsBefore x) xs) where
-    -- it is the next
+    -- x is that of value e
     is_next : (r : ℕ) → ((i j : ℕ) → i < j → j < n → StandsBefore (at i) (at j)) → (e < r → Contains (x ∷ xs) (at e)) → r < n → x ≡ at r → r ≡ e
     is_next r rise left within is = elim (cases_order r e) [
       | inl same ↦ same
@@ -115,7 +116,7 @@ module _ (n : ℕ) (enter leave : ℕ → ℕ) (gaps : AreGaps n enter leave) (H
       | inr (inr above) ↦ absurd (none_sooner x (at e) xs rises (left above) (subst (StandsBefore (at e)) (sym is) (rise e r above within)))
     ]
 
-    -- and then gone too
+    -- then value e is past too
     one_more_gone : x ≡ at e → (i : ℕ) → i < suc e → All (StandsBefore (at i)) xs
     one_more_gone is i below = elim (cases_lt i e) [
       | inl less ↦ All-tail (StandsBefore (at i)) x xs (gone i less)
@@ -123,7 +124,7 @@ module _ (n : ℕ) (enter leave : ℕ → ℕ) (gaps : AreGaps n enter leave) (H
     ]
 
   module _ (e d : ℕ) (queue : List ℕ) (x : Position) (xs : List Position) (state : IsBetween e d queue (x ∷ xs)) (rises : All (StandsBefore x) xs) where
-    -- a value that is dequeued was enqueued
+    -- each dequeued value was enqueued
     not_too_early : d < n → x ≡ dequeue_at enter leave d → d < e
     not_too_early within is = elim (cases_lt d e) [
       | inl below ↦ below
@@ -131,7 +132,7 @@ module _ (n : ℕ) (enter leave : ℕ → ℕ) (gaps : AreGaps n enter leave) (H
           (subst (StandsBefore (enqueue_at enter d)) (sym is) (enqueued_before_dequeued n enter leave gaps d within)))
     ]
 
-    -- where an answer finds the queue empty, no value is in it
+    -- at an empty dequeue no value is in the queue
     all_gone : IsItem n enter leave Holds Leaves Empty x → d ≡ e
     all_gone is = elim (cases_lt d e) [
       | inr all ↦ omega (arith, state.in_order)
@@ -180,7 +181,7 @@ module _ (n : ℕ) (enter leave : ℕ → ℕ) (gaps : AreGaps n enter leave) (H
           (state.dequeues_left i above below leaves);
     }
 
-    -- the next dequeue is that of the first value not yet dequeued
+    -- the next dequeue is that of the first value that isn't dequeued yet
     is_next_dequeue : (r : ℕ) → r < n → Leaves r → x ≡ dequeue_at enter leave r → r ≡ d
     is_next_dequeue r within leaves = is_next (dequeue_at enter leave) d x xs state.dequeues_gone rises r (dequeues_rise n enter leave gaps)
         (λ above. state.dequeues_left d (omega arith) (omega arith) (leaves_first d r (omega arith) within leaves)) within
@@ -231,7 +232,7 @@ module _ (n : ℕ) (enter leave : ℕ → ℕ) (gaps : AreGaps n enter leave) (H
       rw (eq-eqb front v same) (is_accepted kinds xs e (suc d) rest items.1 (AllPairs-tail StandsBefore x xs rises)
       (after_dequeue e d front rest x xs state (first_rises x xs rises) early is))
 
-  -- a run of which the positions rise, and in which each value is enqueued, and dequeued if it leaves, is accepted
+  -- a run is accepted if its positions rise, each value is enqueued, and each that leaves is dequeued
   pub run_is_accepted : (kinds : List OpKind) (positions : List Position) → AllZip (IsItem n enter leave Holds Leaves) kinds positions
       → AllPairs StandsBefore positions → ((i : ℕ) → i < n → Contains positions (enqueue_at enter i))
       → ((i : ℕ) → i < n → Leaves i → Contains positions (dequeue_at enter leave i)) → IsAccepted [] kinds

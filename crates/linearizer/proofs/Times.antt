@@ -10,7 +10,7 @@ use Rattle.linearizer.proofs.Common.{same_Some, slice_get, Some, subst, sym, ℕ
 use Rattle.linearizer.proofs.Common.{clear_life}
 use Rattle.linearizer.proofs.Elements.{kept_rises, one_place}
 
--- what is known of the tickets of one life
+-- facts about the tickets of one life
 pub record HasLifeTimes (life : Life) : Type 0 where
   pub enqueue_returns : enqueue_call life ≤ enqueue_return life
   pub returns_above_zero : 0 < enqueue_return life
@@ -21,7 +21,7 @@ pub record HasLifeTimes (life : Life) : Type 0 where
   pub returns_by_never : dequeue_return life ≤ NEVER
   pub leaves_by_never : leaves_from life ≤ NEVER
 
--- what is known of the tickets of a dequeue, beside those of its enqueue
+-- facts about the tickets of a dequeue and its enqueue
 record HasDequeueTimes (enqueue : Operation) (dequeue : Option Operation) : Type 0 where
   takes_time : (call_or_never dequeue < return_or_never dequeue) ⊎ ((call_or_never dequeue ≡ NEVER) × (return_or_never dequeue ≡ NEVER))
   after_enqueue : enqueue.call < return_or_never dequeue
@@ -64,12 +64,12 @@ times_of_life operations life clear (v, did, dequeues) =
           in_range = omega arith;
         }
 
--- and those of a life of a history
+-- the times of a life of a history are in their order
 pub history_times : (history : Contents) → IsClear (course_of history) → (life : Life) → IsLife (course_of history) life → HasLifeTimes life
 history_times history clear life is = times_of_life (timeline_of history) life (clear_on history.initial history.operations clear)
     (clear_life history.initial history.operations clear life is)
 
--- what is dequeued returns before the last ticket is over
+-- each dequeue returns before the time `NEVER`
 pub returned_in_time : (operations : List Operation) (life : Life) (d : Operation) → IsClear (on operations) → IsLife (on operations) life
     → dequeue_of life ≡ Some d → dequeue_return life < NEVER
 returned_in_time operations life d clear is dequeues =
@@ -77,20 +77,20 @@ returned_in_time operations life d clear is dequeues =
     let returns : dequeue_return life ≡ d.ret = ap return_or_never dequeues in
     omega arith
 
--- ---- Different lives have different tickets
+-- ---- different lives have different tickets
 
--- the operation is one of the life
+-- the operation belongs to the life
 abbrev pub IsOf : Life → Operation → Type 0
 IsOf life o = (enqueue_of life ≡ o) ⊎ (dequeue_of life ≡ Some o)
 
--- an operation of the life has this ticket, of its return or its call
+-- an operation of the life has this ticket as its call or return
 pub record HasTicket (of : Operation → ℕ) (operations : List Operation) (life : Life) (ticket : ℕ) : Type 0 where
   pub o : Operation
   pub among : Contains operations o
   pub is_of : IsOf life o
   pub is : of o ≡ ticket
 
--- the ticket of a life's dequeue, or that for never
+-- the ticket of a life's dequeue, or `NEVER`
 dequeue_has : (of : Operation → ℕ) (or_never : Option Operation → ℕ) (operations : List Operation) (life : Life) → or_never None ≡ NEVER
     → ((d : Operation) → of d ≡ or_never (Some d)) → IsLife (on operations) life
     → HasTicket of operations life (or_never (dequeue_of life)) ⊎ (or_never (dequeue_of life) ≡ NEVER)
@@ -105,7 +105,7 @@ dequeue_returns : (operations : List Operation) (life : Life) → IsLife (on ope
     → HasTicket (λ o. o.ret) operations life (dequeue_return life) ⊎ (dequeue_return life ≡ NEVER)
 dequeue_returns operations life is = dequeue_has (λ o. o.ret) return_or_never operations life refl (λ d. refl) is
 
--- a value has entered at a return of its own
+-- the time by which a value has entered is a return of its own
 pub entered_at_return : (operations : List Operation) (life : Life) → IsClear (on operations)
     → IsLife (on operations) life → HasTicket (λ o. o.ret) operations life (entered_by life)
 entered_at_return operations life clear is =
@@ -120,7 +120,7 @@ entered_at_return operations life clear is =
       ]
     ]
 
--- a value leaves at a call of its own, or never
+-- the time from which a value can leave is a call of its own, or `NEVER`
 pub leaves_at_call : (operations : List Operation) (life : Life) → IsClear (on operations) → IsLife (on operations) life
     → HasTicket (λ o. o.call) operations life (leaves_from life) ⊎ (leaves_from life ≡ NEVER)
 leaves_at_call operations life clear is =
@@ -134,14 +134,14 @@ leaves_at_call operations life clear is =
       ]
     ]
 
--- the kind of an enqueue is not that of a dequeue
+-- no operation is both an enqueue and a dequeue
 pub not_both_kinds : (operations : List Operation) (x y : Life) (o : Operation) → IsLife (on operations) x → IsLife (on operations) y → enqueue_of x ≡ o
     → dequeue_of y ≡ Some o → ⊥
 not_both_kinds operations x y o is_x is_y enqueues dequeues =
     let clash : Enq is_x.0 ≡ Deq is_y.0 = sym is_x.1.1 ∙ ap (λ o. o.kind) enqueues ∙ (did_dequeue operations y o is_y dequeues).1 in
     cc
 
--- lives that share an operation are one
+-- lives that share an operation are equal
 pub one_life_of_operation : (operations : List Operation) (x y : Life) (o : Operation) → IsClear (on operations) → IsLife (on operations) x
     → IsLife (on operations) y → IsOf x o → IsOf y o → x ≡ y
 one_life_of_operation operations x y o clear is_x is_y (inl e) (inl f) = one_life_of_enqueue operations x y clear is_x is_y (e ∙ sym f)
@@ -149,21 +149,21 @@ one_life_of_operation operations x y o clear is_x is_y (inl e) (inr f) = absurd 
 one_life_of_operation operations x y o clear is_x is_y (inr e) (inl f) = absurd (not_both_kinds operations y x o is_y is_x f e)
 one_life_of_operation operations x y o clear is_x is_y (inr e) (inr f) = one_life_of_dequeue operations x y o clear is_x is_y e f
 
--- lives of which operations return at one ticket are one
+-- lives with operations that return at one ticket are equal
 one_life_of_return : (operations : List Operation) (x y : Life) (s t : ℕ) → IsClear (on operations) → IsLife (on operations) x → IsLife (on operations) y
     → HasTicket (λ o. o.ret) operations x s → HasTicket (λ o. o.ret) operations y t → s ≡ t → x ≡ y
 one_life_of_return operations x y s t clear is_x is_y at_x at_y same =
     let one = same_return operations at_x.o at_y.o clear.complete at_x.among at_y.among (at_x.is ∙ same ∙ sym at_y.is) in
     one_life_of_operation operations x y at_y.o clear is_x is_y (subst (λ o. IsOf x o) one at_x.is_of) at_y.is_of
 
--- one value has entered at a time
+-- lives that enter at one time are equal
 pub one_life_of_entering : (operations : List Operation) (x y : Life) → IsClear (on operations) → IsLife (on operations) x → IsLife (on operations) y
     → entered_by x ≡ entered_by y → x ≡ y
 one_life_of_entering operations x y clear is_x is_y same =
     one_life_of_return operations x y (entered_by x) (entered_by y) clear is_x is_y (entered_at_return operations x clear is_x)
     (entered_at_return operations y clear is_y) same
 
--- one value's dequeue returns at a time, but never
+-- lives whose dequeues return at one time are equal, unless the time is `NEVER`
 pub one_life_of_dequeue_return : (operations : List Operation) (x y : Life) → IsClear (on operations) → IsLife (on operations) x → IsLife (on operations) y
     → dequeue_return x ≡ dequeue_return y → (x ≡ y) ⊎ (dequeue_return x ≡ NEVER)
 one_life_of_dequeue_return operations x y clear is_x is_y same =
@@ -175,7 +175,7 @@ one_life_of_dequeue_return operations x y clear is_x is_y same =
       ]
     ]
 
--- no dequeue returns where a value leaves, but never
+-- no dequeue returns when another value can first leave, unless the time is `NEVER`
 pub returns_at_no_leave : (operations : List Operation) (x y : Life) → IsClear (on operations) → IsLife (on operations) x → IsLife (on operations) y
     → dequeue_return x ≡ leaves_from y → leaves_from y ≡ NEVER
 returns_at_no_leave operations x y clear is_x is_y same = elim (leaves_at_call operations y clear is_y) [
@@ -196,13 +196,13 @@ enqueues_itself : (operations : List Operation) (o : Operation) (k : OpKind) (li
 enqueues_itself operations o (Enq v) life same = sym (ap (λ l. (enqueue_of l).call) (same_Some _ life same))
 enqueues_itself operations o _ life same = cc
 
--- the lives are listed in the order of their enqueues' calls
+-- the lives are in the order of their enqueues' calls
 pub lives_rise : (operations : List Operation) → AreComplete operations → AllPairs (λ x y. enqueue_call x < enqueue_call y) (lives_of operations)
 lives_rise operations complete =
     let rise : AllPairs (λ x y. x.call < y.call) operations = λ i j d below within. (complete.apart i j d below within).called_first in
     kept_rises (λ o. life_from operations o o.kind) (λ o. o.call) enqueue_call operations (λ o life same. enqueues_itself operations o o.kind life same) rise
 
--- a life stands at one place of the order of values
+-- a life has one place in the order of values
 pub one_place_of_life : (operations : List Operation) (lives : List Life) (i j : ℕ) (x y : Life) → IsClear (on operations) → IsValueOrder (on operations) lives
     → slice_get lives i ≡ Some x → slice_get lives j ≡ Some y → x ≡ y → i ≡ j
 one_place_of_life operations lives i j x y clear order at_x at_y same =

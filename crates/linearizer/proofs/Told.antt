@@ -1,4 +1,4 @@
--- What was placed and merged is the chosen order of the history, which is legal.
+-- The merged list is the chosen order of the history, which is legal.
 use Rattle.linearizer.proofs.Elements.{earlier_at, value_order_along}
 use Rattle.linearizer.proofs.OneOrder.{chosen_order_is_legal, each_once, operations_rise, position_along}
 use Rattle.linearizer.proofs.OneOrder.{sorted_is_chosen}
@@ -26,7 +26,7 @@ module _ (initial : List ℕ) (operations : List Operation) (clear : IsClear (co
   few : length initial ≤ MAX_INITIAL
   few = clear.complete.3
 
-  -- positions behind those of the first operations
+  -- the positions after those of the first operations
   behind : (R : Operation → Position → Type 0) (xs ys : List Operation) (positions : List Position) → AllZip R (xs ++ ys) positions
       → AllPairs StandsBefore positions → (rest : List Position) × AllZip R ys rest × AllPairs StandsBefore rest
   behind R [] ys positions zip rise = (positions, zip, rise)
@@ -43,7 +43,7 @@ module _ (initial : List ℕ) (operations : List Operation) (clear : IsClear (co
       let here = position_along (on all) (course initial operations) (course_back initial operations) lives o o.kind p zip.0 in
       (here, positions_told lives os positions zip.1)
 
-  -- the chosen order of the operations by their times, behind the enqueues of the initial values, is that of the history
+  -- the chosen order of the timeline, without the enqueues of the initial values, is that of the history
   pub chosen_told : (order : List Operation) → IsPermutation operations order → IsChosenOrder (on all) (timeline initial order)
       → IsChosenOrder (course initial operations) (timed order)
   chosen_told order moved chosen =
@@ -81,7 +81,7 @@ module _ (history : Contents) (lives : List Life) where
           let was : earlier ORIGIN p.operation ≡ Some x.0 = ap (earlier ORIGIN) (sym x.2) ∙ earlier_later ORIGIN x.0 in
           rw was (ap₂ (λ (o : Option Operation) (os : List (Option Operation)). o ∷ os) x.1 rest)
 
--- all operations stand at their positions, and are merged by them
+-- the merged list of all operations at their positions is the chosen order, and legal
 pub chosen_and_legal : (history : Contents) (noops : List Placed) (places : List ℕ) → IsClear (course_of history) → NoOrderViolation (course_of history)
     → HoldsNoops history noops → IsMerge history noops places → AreChosenAndLegal history.initial history.operations places
 chosen_and_legal history noops places clear none noop (values, held, sorted) =

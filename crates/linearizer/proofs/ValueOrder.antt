@@ -1,4 +1,4 @@
--- There is one order of the values, and one only.
+-- There is exactly one order of the values.
 use Rattle.linearizer.proofs.Common.{[], All-cons, All-contains, All-nil, All-permutation, All-weaker, ap, arith}
 use Rattle.linearizer.proofs.Common.{cases_lt, Contains, Contains-permutation, contains_at, contains_cons}
 use Rattle.linearizer.proofs.Common.{dequeue_return, EachIsChoice, enqueue_call, entered_by, inl, inr, IsChoice}
@@ -13,15 +13,15 @@ use Rattle.linearizer.proofs.Elements.{none_twice_from_places, NoneTwice}
 
 -- ---- how the next value is chosen
 
--- the least of some lives is at most each
+-- the least of some lives is at most each of them
 pub least_at : (number : Life → ℕ) (lives : List Life) (least x : Life) → IsLeastBy number lives least → Contains lives x → number least ≤ number x
 least_at number lives least x is among = All-contains (λ y. number least ≤ number y) lives x is.1 among
 
--- the two ways in which a choice is made
+-- the two ways to make a choice
 abbrev pub IsMade : List Life → Life → Life → Life → Type 0
 IsMade remaining a b choice = ((dequeue_return b < leaves_from a) × (choice ≡ b)) ⊎ ((leaves_from a ≤ dequeue_return b) × (choice ≡ a))
 
--- a choice is made of the first that entered and the first that was dequeued
+-- a choice is the first entered or the first dequeued
 pub made : (remaining : List Life) (choice : Life) (is : IsChoice remaining choice) → IsMade remaining is.first_entered is.first_dequeued choice
 made remaining choice is = elim (cases_lt (dequeue_return is.first_dequeued) (leaves_from is.first_entered)) [
   | inl less ↦ inl (less, is.takes_dequeued less)
@@ -35,7 +35,7 @@ pub record HasTurn (lives : List Life) (x y : Life) : Type 0 where
   pub remains : Contains remaining y
   pub among : (z : Life) → Contains remaining z → Contains lives z
 
--- of two values in their order the second remains at the turn of the first
+-- the second of two values in order remains at the turn of the first
 pub turn_of : (lives : List Life) (i j : ℕ) (x y : Life) → EachIsChoice lives → i ≤ j → slice_get lives i ≡ Some x → slice_get lives j ≡ Some y
     → HasTurn lives x y
 turn_of [] i j x y each le at_x at_y = cc
@@ -56,16 +56,16 @@ turn_of (life ∷ rest) (suc i) (suc j) x y each le at_x at_y =
 
 -- ---- each value may stand before those after it in the order of values
 
--- x is to stand before y by their enqueues, and after it by their dequeues
+-- the enqueues put x before y, the dequeues y before x
 abbrev pub IsOpposite : Life → Life → Type 0
 IsOpposite x y = (entered_by x < enqueue_call y) × (dequeue_return y < leaves_from x)
 
--- nothing makes y stand before x
+-- neither the enqueues nor the dequeues put y before x
 abbrev pub MayStandBefore : Life → Life → Type 0
 MayStandBefore x y = ¬ (entered_by y < enqueue_call x) × ¬ (dequeue_return y < leaves_from x)
 
 module _ (operations : List Operation) (clear : IsClear (on operations)) (none : NoOrderViolation (on operations)) where
-  -- no two values stand opposite, as one would overtake the other
+  -- no two values are opposite, since one would overtake the other
   no_two_opposite : (x y : Life) → IsLife (on operations) x → IsLife (on operations) y → ¬ (IsOpposite x y)
   no_two_opposite x y is_x is_y opposite =
       let times_x = times_of_life operations x clear is_x in
@@ -89,18 +89,18 @@ module _ (operations : List Operation) (clear : IsClear (on operations)) (none :
         | inr taken ↦ rw taken.1 ((λ early. omega arith), (λ early. omega arith))
       ]
 
--- what stands in the order of values is a life, and each life stands there
+-- the elements of the order of values are lives, and each life is one
 pub is_life : (operations : List Operation) (lives : List Life) → IsValueOrder (on operations) lives → (x : Life) → Contains lives x → IsLife (on operations) x
 is_life operations lives order x among =
     life_of_contained operations x (Contains-permutation lives (lives_of operations) x
     (IsPermutation-sym (lives_of operations) lives order.holds_each_once) among)
 
--- what stands at a place of the order is a life
+-- the element at a place of the order is a life
 pub is_life_at : (operations : List Operation) (lives : List Life) (i : ℕ) (x : Life) → IsValueOrder (on operations) lives → slice_get lives i ≡ Some x
     → IsLife (on operations) x
 is_life_at operations lives i x order at = is_life operations lives order x (contains_at lives i x at)
 
--- each value stands in the order
+-- each life is in the order
 pub stands_in_order : (operations : List Operation) (lives : List Life) → IsClear (on operations) → IsValueOrder (on operations) lives → (x : Life)
     → IsLife (on operations) x → Contains lives x
 stands_in_order operations lives clear order x is = Contains-permutation (lives_of operations) lives x order.holds_each_once
@@ -114,7 +114,7 @@ may_stand_before operations lives i j x y clear none order le at_x at_y =
     choice_may_stand_before operations clear none turn.remaining x y (λ z among. is_life operations lives order z (turn.among z among))
     turn.is_choice turn.remains
 
--- ---- there is one order of the values, and one only
+-- ---- there is exactly one order of the values
 
 least_by : (number : Life → ℕ) (x : Life) (xs : List Life) → (life : Life) × IsLeastBy number (x ∷ xs) life
 least_by number x [] = (
@@ -162,7 +162,7 @@ least_in_other_order number xs ys life moved is = (
       (λ other. number life ≤ number other) xs ys moved is.1,
 )
 
--- a choice doesn't depend on the order of what remains
+-- a choice doesn't depend on the order of the values that remain
 pub choice_in_other_order : (xs ys : List Life) (life : Life) → IsPermutation xs ys → IsChoice xs life → IsChoice ys life
 choice_in_other_order xs ys life moved is = record {
   first_entered = is.first_entered;
@@ -198,7 +198,7 @@ values_have_order operations clear =
     let found = in_order (length (lives_of operations)) (lives_of operations) refl in
     (found.0, record { holds_each_once = found.1; each_is_choice = found.2 })
 
--- lists that have the same elements, each once
+-- lists with the same elements
 pub record AreSame {X : Type 0} (xs ys : List X) : Type 0 where
   pub into : (x : X) → Contains xs x → Contains ys x
   pub back : (x : X) → Contains ys x → Contains xs x
@@ -239,7 +239,7 @@ one_choice operations xs ys c d clear are same is_c is_d =
       ]
     ]
 
--- lists with the same elements, without one that both have
+-- lists with the same elements, after removing one from both
 rest_alike : {X : Type 0} (x y : X) (xs ys : List X) → x ≡ y → AreSame (x ∷ xs) (y ∷ ys) → AreSame xs ys
 rest_alike {X} x y xs ys one same = record {
   into = λ z among. behind x y xs ys z one same.first_once.0 among (same.into z (one_deeper x xs z among));
@@ -264,7 +264,7 @@ one_order operations (x ∷ xs) (y ∷ ys) clear are same each each' =
     let rest = one_order operations xs ys clear (λ z among. are z (one_deeper x xs z among)) (rest_alike x y xs ys one same) each.1 each'.1 in
     cc
 
--- the values have one order
+-- the values have only one order
 pub values_have_one_order : (operations : List Operation) (xs ys : List Life) → IsClear (on operations) → IsValueOrder (on operations) xs
     → IsValueOrder (on operations) ys → xs ≡ ys
 values_have_one_order operations xs ys clear order order' = one_order _ xs ys clear (is_life _ xs order) (record {

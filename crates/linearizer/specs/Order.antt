@@ -9,7 +9,7 @@ use Rattle.value_match.specs.declared.life.Life.{Life}
 use Rattle.value_match.specs.Lives.{Course, IsLeastFreeGap, course, dequeue_of, enqueue_of, timed}
 use Rattle.linearizer.specs.Values.{IsValueOrder, enqueue_gap, dequeue_gap}
 
--- where an operation stands: its gap, its class within the gap, and its rank within the class
+-- the position of an operation: its gap, its class within the gap, and its rank within the class
 pub record Position : Type 0 where
   pub gap : ℕ
   pub class : ℕ
@@ -19,32 +19,32 @@ pub record Position : Type 0 where
 abbrev pub earlier_dequeues : ℕ
 earlier_dequeues = 0
 
--- the class of the empty answers and the refused enqueues
+-- the class of the empty dequeues and the failed enqueues
 abbrev pub noop_answers : ℕ
 noop_answers = 1
 
--- the class of the accepted enqueues
+-- the class of the successful enqueues
 abbrev pub enqueues : ℕ
 enqueues = 2
 
--- the class of the other dequeues, of values that were enqueued at the same gap
+-- the class of the dequeues of values that were enqueued at the same gap
 abbrev pub other_dequeues : ℕ
 other_dequeues = 3
 
--- where the enqueue of the i-th value stands
+-- the position of the enqueue of the i-th value
 abbrev pub enqueue_position : List Life → ℕ → Position
 enqueue_position lives i = record { gap = enqueue_gap lives i; class = enqueues; rank = i }
 
--- where the dequeue of the i-th value stands
+-- the position of the dequeue of the i-th value
 abbrev pub dequeue_position : List Life → ℕ → Position
 dequeue_position lives i =
     record { gap = dequeue_gap lives i; class = (if nat_lt (enqueue_gap lives i) (dequeue_gap lives i) then earlier_dequeues else other_dequeues); rank = i }
 
--- an operation that changes nothing stands at this gap, by its call
+-- the position of an operation that changes nothing, at this gap
 abbrev pub noop_position : Operation → ℕ → Position
 noop_position o gap = record { gap = gap; class = noop_answers; rank = o.call }
 
--- where the operation stands, by what it did
+-- the position of an operation of this kind
 abbrev pub IsPositionFor : Course → List Life → Operation → OpKind → Position → Type 0
 IsPositionFor c lives o (Enq v) position =
     (i : ℕ) × (life : Life) × (slice_get lives i ≡ Some life) × (enqueue_of life ≡ o) × (position ≡ enqueue_position lives i)
@@ -53,15 +53,15 @@ IsPositionFor c lives o (Deq v) position =
 IsPositionFor c lives o Empty position = (gap : ℕ) × IsLeastFreeGap c o gap × (position ≡ noop_position o gap)
 IsPositionFor c lives o (Not v) position = position ≡ noop_position o o.call
 
--- where the operation stands
+-- the position of an operation
 abbrev pub IsPositionOf : Course → List Life → Operation → Position → Type 0
 IsPositionOf c lives o position = IsPositionFor c lives o o.kind position
 
--- by gap, then by class, then by rank
+-- positions compare by gap, then by class, then by rank
 abbrev pub StandsBefore : Position → Position → Type 0
 StandsBefore p q = (p.gap < q.gap) ⊎ ((p.gap ≡ q.gap) × ((p.class < q.class) ⊎ ((p.class ≡ q.class) × (p.rank < q.rank))))
 
--- all operations by rising position
+-- all operations in rising order of position
 pub record IsChosenOrder (c : Course) (order : List Operation) : Type 0 where
   pub lives : List Life
   pub positions : List Position
@@ -70,7 +70,8 @@ pub record IsChosenOrder (c : Course) (order : List Operation) : Type 0 where
   pub each_has_position : AllZip (λ o position. IsPositionOf c lives o position) order positions
   pub positions_rise : AllPairs StandsBefore positions
 
--- the places are those of the chosen order of the history, which is legal for a queue that holds these values first
+-- the places are those of the chosen order of the history, which is legal for a queue that holds the initial values
+-- first
 abbrev pub AreChosenAndLegal : List ℕ → List Operation → List ℕ → Type 0
 AreChosenAndLegal initial operations places =
     (order : List Operation) × ArePlacesOf operations places order × IsChosenOrder (course initial operations) (timed order)

@@ -1,16 +1,16 @@
--- The order of the accepted values, and the gaps at which their operations stand.
+-- The order of the enqueued values, and the gaps of their operations.
 use Rattle.std.specs.Prelude.{All, Contains, drop, fold, IsPermutation, List, map, max, min, take, ℕ, ⊤, [], ◌+◌, ◌-◌}
 use Rattle.std.specs.Prelude.{◌<◌, ◌∷◌, ◌≡◌, ◌≤◌}
 use Rattle.value_match.specs.declared.life.Life.{Life}
 use Rattle.value_match.specs.declared.life.TheConstants.{NEVER}
 use Rattle.value_match.specs.Lives.{Course, entered_by, leaves_from, dequeue_return}
 
--- one of the lives, at which this number is least
+-- one of the lives at which this number is least
 abbrev pub IsLeastBy : (Life → ℕ) → List Life → Life → Type 0
 IsLeastBy number lives life = Contains lives life × All (λ other. number life ≤ number other) lives
 
--- the next value of those that remain: the one dequeued first, where that was before the first entered can have left,
--- else the first entered
+-- the next of the values that remain: the first dequeued, if its dequeue returns before the first entered can have
+-- left, else the first entered
 pub record IsChoice (remaining : List Life) (life : Life) : Type 0 where
   pub first_entered : Life
   pub first_dequeued : Life
@@ -24,7 +24,7 @@ abbrev pub EachIsChoice : List Life → Type 0
 EachIsChoice [] = ⊤
 EachIsChoice (life ∷ rest) = IsChoice (life ∷ rest) life × EachIsChoice rest
 
--- the accepted values in their chosen order
+-- the enqueued values in their chosen order
 pub record IsValueOrder (c : Course) (lives : List Life) : Type 0 where
   pub holds_each_once : IsPermutation c.lives lives
   pub each_is_choice : EachIsChoice lives
@@ -37,10 +37,10 @@ least_entered_by lives = fold min NEVER (map entered_by lives)
 abbrev pub greatest_leaves_from : List Life → ℕ
 greatest_leaves_from lives = fold max 0 (map leaves_from lives)
 
--- the gap just before one of the values from place i on has definitely entered
+-- the gap just before the first of the values from place i on has definitely entered
 abbrev pub enqueue_gap : List Life → ℕ → ℕ
 enqueue_gap lives i = least_entered_by (drop i lives) - 1
 
--- the gap from which the values up to place i can all have left, and not before the enqueue
+-- the gap from which the values up to place i can all have left, but no gap before the enqueue's
 abbrev pub dequeue_gap : List Life → ℕ → ℕ
 dequeue_gap lives i = max (greatest_leaves_from (take (i + 1) lives)) (enqueue_gap lives i)

@@ -1,4 +1,4 @@
-//! The values by their times.
+//! The values sorted by their times.
 ghost use Rattle.std.specs.Prelude.{◌<◌, ◌≤◌, All, IfOk, IsPermutation, length};
 ghost use Rattle.std.specs.List.Sorted.{IsNonDecreasingBy};
 ghost use Rattle.value_match.specs.declared.life.TheConstants.{NEVER};
@@ -10,14 +10,15 @@ use crate::timed::{PackedTimed, Timed};
 use std::alloc::{AllocError, Global};
 use value_match::{NEVER, Values, presort};
 
-/// The values by the time by which each has entered, and those that are dequeued by that at which their dequeues returned.
+/// The values sorted by the time by which each has entered, and the dequeued ones sorted by the returns of their
+/// dequeues.
 #[derive(Drop)]
 pub(crate) struct ByTime {
     pub(crate) entries: Vec<PackedTimed>,
     pub(crate) dequeues: Vec<PackedTimed>,
 }
 
-/// The values by these two times.
+/// Returns the values sorted by these two times.
 pub(crate) fn by_time(alloc: Global, values: &Values) -> Result<ByTime, AllocError>
     requires few { length values.now ≤ PLACES }
     requires entries { All (λ value. entered_by value.life < NEVER) values.now }
@@ -44,7 +45,7 @@ pub(crate) fn by_time(alloc: Global, values: &Values) -> Result<ByTime, AllocErr
 
 /// Sorts the values by their times.
 ///
-/// Time O(n) for n values if each stands near its place, otherwise O(n log n).
+/// Takes O(n) time for n values if each stands near its sorted place, otherwise O(n log n).
 fn sorted(timed: Vec<PackedTimed>) -> Vec<PackedTimed>
     ensures permutation { IsPermutation timed.items result.items }
     ensures never_falls { IsNonDecreasingBy (λ timed. timed.time) result.items }

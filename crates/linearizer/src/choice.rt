@@ -11,21 +11,22 @@ use crate::timed::{PackedTimed, Timed, first_left};
 use std::alloc::{AllocError, Global};
 use value_match::{MatchedValue, NEVER, Values};
 
-/// What a sweep over the values finds.
+/// The result of a sweep over the values.
 #[derive(Drop)]
 pub(crate) enum Swept {
     /// The places of the values in their chosen order, each with the gap of its enqueue.
     InOrder(Vec<PackedTimed>),
-    /// A value that has to come next, though its enqueue is called only after a later value has entered.
+    /// A value forced to come next by its dequeue, although its enqueue is called after another remaining value has
+    /// entered.
     PassedOver(MatchedValue),
 }
 
-/// Puts the values in their chosen order: a value is the choice among itself and those after it.
+/// Puts the values in their chosen order: each value is the choice among itself and those after it.
 ///
-/// The values stand in two lists, one by when each has entered, the other by when each was dequeued. In each list
-/// those before a cursor are taken, so the one at the cursor is the first of its values that remain.
+/// Two lists hold the values, one sorted by the time of entry, the other by the return of the dequeue. All values
+/// before a list's cursor are taken, so the value at the cursor is the first that remains.
 ///
-/// `room` says for how many values there is room in the order.
+/// `room` is the capacity of the returned order.
 pub(crate) fn put_in_order(alloc: Global, values: &Values, room: usize) -> Result<Swept, AllocError>
     requires few { length values.now ≤ PLACES }
     requires entries { All (λ value. entered_by value.life < NEVER) values.now }
@@ -58,7 +59,8 @@ pub(crate) fn put_in_order(alloc: Global, values: &Values, room: usize) -> Resul
     Ok(Swept::InOrder(order))
 }
 
-/// The dequeue at this place of the list. Behind the last, this value is as good as any: none of those that are left is dequeued.
+/// Returns the dequeue at index `at`. Past the end of the list, any value will do: none of those that remain is
+/// dequeued.
 fn dequeued_at(dequeues: &[PackedTimed], at: usize, place: usize) -> Timed
     ensures { IsDequeuedAt dequeues.now at place result }
 {
@@ -68,7 +70,7 @@ fn dequeued_at(dequeues: &[PackedTimed], at: usize, place: usize) -> Timed
     }
 }
 
-/// The place of the choice among values of which the one entered first, and the other was dequeued first.
+/// Returns the place of the choice, given the first-entered and the first-dequeued of the values that remain.
 fn choice(values: &Values, first_in: Timed, first_out: Timed) -> usize
     requires { first_in.place < length values.now }
     ensures { TakesOneOf values.now first_in first_out result }
@@ -79,7 +81,8 @@ fn choice(values: &Values, first_in: Timed, first_out: Timed) -> usize
     first_in.place
 }
 
-/// Whether the enqueue of the value at this place is called only after the first has entered. That of the first itself never is.
+/// Returns whether the enqueue of the value at `next` is called only after `first_in` has entered. `first_in` itself
+/// is never late.
 fn is_late(values: &Values, next: usize, first_in: Timed) -> bool
     requires next { next < length values.now }
     requires in_time { (m : MatchedValue) → slice_get values.now first_in.place ≡ Some m → enqueue_call m.life ≤ first_in.time }

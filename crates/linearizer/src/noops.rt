@@ -1,4 +1,4 @@
-//! The operations that change nothing, by their positions.
+//! The operations that change nothing, sorted by position.
 ghost use Rattle.std.specs.Prelude.{◌≡◌, ◌+◌, ◌↔◌, ◌<◌, ◌≤◌, All, IfOk, IsSomeAnd, IsTrue, MatchOption, OnOk};
 ghost use Rattle.std.specs.Prelude.{Some, false, filter, length, map, slice_get};
 ghost use Rattle.history_merge.specs.declared.packed.TheConstants.{PACKED_LIMIT};
@@ -19,13 +19,14 @@ use std::alloc::{AllocError, Global};
 use std::marker::Model;
 use value_match::Matching;
 
-/// The empty answers and the refused enqueues by rising position, seen as the list of them with their positions.
+/// The empty dequeues and the failed enqueues in rising order of position, seen as the list of them with their
+/// positions.
 ///
-/// It borrows the operations, and holds a word for each no-op.
+/// Borrows the operations, and holds a word for each no-op.
 #[derive(Drop)]
 pub(crate) struct Noops<'a> {
     operations: Operations<'a>,
-    // The place and the gap of each.
+    // The place and the gap of each no-op.
     at: Vec<PackedTimed>,
 }
 
@@ -48,14 +49,14 @@ impl<'a> Noops<'a> {
         Noops { operations, at }
     }
 
-    /// How many there are.
+    /// Returns the number of no-ops.
     pub(crate) fn len(&self) -> usize
         ensures { result ≡ length self.now }
     {
         self.at.len()
     }
 
-    /// The place of the one at this place of the list.
+    /// Returns the place of the no-op at index `at`.
     #[inline(always)]
     pub(crate) fn place(&self, at: usize) -> OpId
         requires { at < length self.now }
@@ -64,7 +65,7 @@ impl<'a> Noops<'a> {
         OpId::new(self.at[at].place())
     }
 
-    /// Where it stands.
+    /// Returns the position of the no-op at index `at`.
     #[inline(always)]
     fn position(&self, at: usize) -> Position
         requires { at < length self.now }
@@ -79,7 +80,8 @@ impl<'a> Noops<'a> {
         }
     }
 
-    /// Whether the one at this place of the list stands after a position, if one is given. Mostly its gap decides.
+    /// Returns whether the no-op at index `at` stands after a position; false if none is given. Mostly the gaps
+    /// decide.
     #[inline(always)]
     pub(crate) fn is_after(&self, at: usize, position: Option<Position>) -> bool
         requires { at < length self.now }
@@ -96,8 +98,8 @@ impl<'a> Noops<'a> {
     }
 }
 
-/// The empty answers, at the gaps after these tickets, and the refused enqueues, by rising position. Those of one gap
-/// stand in the order of their calls, which is that of their places.
+/// Returns the empty dequeues, at the gaps after these tickets, and the failed enqueues, in rising order of position.
+/// Those of one gap stand in the order of their calls, which is that of their places.
 pub(crate) fn noops_of<'a>(
     alloc: Global,
     matching: &'a Matching,
@@ -116,7 +118,7 @@ pub(crate) fn noops_of<'a>(
     Ok(Noops::new(operations, noops))
 }
 
-/// Adds the empty answers.
+/// Adds the empty dequeues.
 #[tactic(auto, using(crate::proofs::Elements::adds_none))]
 fn add_empties(
     noops: &mut Vec<PackedTimed>,
@@ -138,7 +140,7 @@ fn add_empties(
     Ok(())
 }
 
-/// Adds the refused enqueues, each at its call.
+/// Adds the failed enqueues, each at the gap of its call.
 #[tactic(auto, using(crate::proofs::Elements::adds_none))]
 fn add_refused(noops: &mut Vec<PackedTimed>, matching: &Matching) -> Result<(), AllocError>
     requires { IsClear (course_of matching.now) }
@@ -156,7 +158,7 @@ fn add_refused(noops: &mut Vec<PackedTimed>, matching: &Matching) -> Result<(), 
     Ok(())
 }
 
-/// The time of the call of this operation.
+/// Returns the time of the operation's call.
 #[inline(always)]
 fn call_at(operations: &Operations, id: OpId) -> u64
     requires { IsCalledInRange operations.now id }

@@ -11,14 +11,14 @@ use history_merge::OpId;
 use std::alloc::{AllocError, Global};
 use value_match::Matching;
 
-/// Returns the chosen linearization of a history without violations (Herlihy and Wing 1990), by the order of its values:
-/// the operations' places in `matching.operations()`. The queue holds the initial values first.
+/// Returns the chosen linearization (Herlihy and Wing 1990) of a history without violations, as places in
+/// `matching.operations()`. It follows the order of the values, and the queue holds the initial values first.
 ///
-/// Of two operations the one at the lower gap stands first, where gap `c` is the time between tickets `c` and `c + 1`.
-/// `gaps` has the least free gap of each empty dequeue, in the order of their calls.
+/// An operation at a lower gap stands before one at a higher gap; gap `c` is the time between tickets `c` and `c +
+/// 1`. `gaps` has the least free gap of each empty dequeue, in the order of their calls.
 ///
-/// The call takes a word for each empty dequeue and failed enqueue, and half a word for each operation. Its time grows as
-/// that of a sort of the empty dequeues and failed enqueues. The only error is out of memory.
+/// The call takes a word for each empty dequeue and failed enqueue, and half a word for each operation. Its time
+/// grows as that of sorting the empty dequeues and failed enqueues. The only error is out of memory.
 pub fn linearize(
     alloc: Global,
     matching: &Matching,

@@ -11,14 +11,15 @@ use std::alloc::{AllocError, Global};
 use std::marker::Model;
 use value_match::{MatchedValue, Matching};
 
-/// The accepted values of a matching in their chosen order, with the gap of each enqueue; seen as the history that they are of.
+/// The enqueued values of a matching in their chosen order, each with the gap of its enqueue. Contracts see the
+/// history that they belong to.
 ///
-/// It borrows the history, and takes a word for each operation and each initial value.
+/// Borrows the history, and takes a word for each operation and each initial value.
 #[derive(Drop)]
 pub struct OrderedValues<'a> {
     initial: &'a [u64],
     operations: Operations<'a>,
-    // The place and the gap of each.
+    // The place of each value and the gap of its enqueue.
     order: Vec<PackedTimed>,
 }
 
@@ -36,26 +37,27 @@ impl<'a> Model for OrderedValues<'a> {
         × IsOrderOf (record { initial = a.initial.now; operations = a.operations }) a.order.items };
 }
 
-/// What ordering the accepted values of a matching finds.
+/// The result of ordering the values of a matching.
 #[derive(Drop)]
 pub enum OrderFound<'a> {
     /// The values in their chosen order. No two are dequeued against the order of their enqueues.
     InOrder(OrderedValues<'a>),
-    /// Of the values that are dequeued before another that was enqueued before them the one that is dequeued first.
+    /// The first-dequeued value that overtakes another.
     Overtaker(MatchedValue),
 }
 
-/// Puts the accepted values of a matching in their chosen order, or finds that two are dequeued against the order of their
-/// enqueues.
+/// Puts the enqueued values of a matching in their chosen order, or finds that two are dequeued against the order of
+/// their enqueues.
 ///
-/// Time O(n log n) for n values, and little more than a pass where they enter and leave nearly in the order of their enqueues' calls.
-/// `AllocError` comes only where a growth was refused.
+/// Takes O(n log n) time for n values, and little more than one pass if they enter and leave nearly in the order of
+/// their enqueues' calls. The only error is out of memory.
 pub fn order_values<'a>(alloc: Global, matching: &'a Matching) -> Result<OrderFound<'a>, AllocError>
     ensures { IfOk result (OrdersValues matching.now) }
 {
     let initial = matching.initial();
     let operations = matching.operations();
-    // As much room as matching gave back, so that nothing that comes later has a part of it that was never in use.
+    // As large as the buffer that matching freed, so that this one reuses it whole. A later buffer in a part of it
+    // would touch memory that was never in use.
     let room = initial.len().saturating_add(operations.len());
     match put_in_order(alloc, &matching.values(), room)? {
         Swept::InOrder(order) => Ok(OrderFound::InOrder(OrderedValues {
@@ -68,7 +70,7 @@ pub fn order_values<'a>(alloc: Global, matching: &'a Matching) -> Result<OrderFo
 }
 
 impl<'a> OrderedValues<'a> {
-    /// The places of the values in their order, each with the gap of its enqueue.
+    /// Returns the places of the values in their chosen order, each with the gap of its enqueue.
     pub(crate) fn order(&self) -> &[PackedTimed]
         ensures clear { IsClear (course_of self.now) }
         ensures order { IsOrderOf self.now result.now }

@@ -11,9 +11,9 @@ use history_merge::OpId;
 use std::alloc::{AllocError, Global};
 use value_match::{Matching, Source};
 
-/// The places of the operations by rising position.
+/// Returns the places of the operations in rising order of position.
 ///
-/// The enqueues rise, the dequeues do, and the no-ops are sorted: the three lists are merged.
+/// Three lists that rise are merged: the enqueues, the dequeues and the no-ops.
 pub(crate) fn merge(
     alloc: Global,
     matching: &Matching,
@@ -31,8 +31,8 @@ pub(crate) fn merge(
     Ok(places)
 }
 
-/// How many values of the order had their dequeues placed, and the time from which all of these can have left; and how
-/// many no-ops were placed.
+/// The progress of a merge: how many values of the order had their dequeues placed, the time from which all of these
+/// can have left, and how many no-ops were placed.
 #[derive(Clone, Copy)]
 pub(crate) struct Merged {
     pub(crate) dequeues: usize,
@@ -71,7 +71,7 @@ fn place_enqueues(
     Ok(so_far)
 }
 
-/// The place of the enqueue that the value comes from, if it comes from one.
+/// Returns the place of the enqueue that a value comes from, or none for an initial value.
 #[inline(always)]
 fn place_of(source: Source) -> Option<OpId>
     ensures { result ≡ place_of source }
@@ -82,8 +82,8 @@ fn place_of(source: Source) -> Option<OpId>
     }
 }
 
-/// Adds the next dequeues in the order of the values, up to the first that stands after this position, if one is given;
-/// each after the no-ops that stand before it.
+/// Adds the next dequeues in the order of the values, each after the no-ops that stand before it. Stops at the first
+/// dequeue that stands after `before`, if that is given.
 #[inline(always)]
 fn place_dequeues(
     places: &mut Vec<OpId>,
@@ -129,7 +129,7 @@ fn place_dequeues(
     Ok(())
 }
 
-/// Adds the next no-ops, up to the first that stands after this position, if one is given.
+/// Adds the next no-ops. Stops at the first that stands after `before`, if that is given.
 #[inline(always)]
 fn place_noops(
     places: &mut Vec<OpId>,

@@ -2,20 +2,20 @@ ghost use Rattle.std.specs.Prelude.{◌≡◌, ◌↔◌, if◌then◌else◌, n
 ghost use Rattle.linearizer.specs.Order.{StandsBefore, earlier_dequeues, enqueues, other_dequeues};
 ghost use Rattle.linearizer.specs.Inner.Placement.{position_of};
 
-/// The order of operations within one gap.
+/// The classes of operations within one gap, in their order.
 #[derive(Clone, Copy, PartialEq, PartialOrd)]
 pub(crate) enum Class {
-    /// Dequeues of values that were enqueued at an earlier gap.
+    /// A dequeue of a value that was enqueued at an earlier gap.
     EarlierDequeue,
-    /// Empty answers and refused enqueues.
+    /// An empty dequeue or a failed enqueue.
     Noop,
-    /// Enqueues of accepted values.
+    /// A successful enqueue.
     Enqueue,
-    /// Dequeues of values that were enqueued at this gap.
+    /// A dequeue of a value that was enqueued at this gap.
     OtherDequeue,
 }
 
-/// Where an operation stands: its gap, its class within the gap, and its rank within the class.
+/// The position of an operation: its gap, its class within the gap, and its rank within the class.
 #[derive(Clone, Copy, PartialEq, PartialOrd)]
 pub(crate) struct Position {
     pub(crate) gap: u64,
@@ -26,7 +26,7 @@ pub(crate) struct Position {
 impl Position {
     ghost use Rattle.linearizer.specs.Inner.Placement.{position_of};
 
-    /// That of the enqueue of the value at this place of the order of values.
+    /// Returns the position of the enqueue of the value at `place` in the order of values.
     pub(crate) fn of_enqueue(gap: u64, place: usize) -> Position
         ensures { position_of result ≡ record { gap = gap; class = enqueues; rank = place } }
     {
@@ -37,7 +37,7 @@ impl Position {
         }
     }
 
-    /// That of the dequeue of the value at this place of the order of values.
+    /// Returns the position of the dequeue of the value at `place` in the order of values.
     pub(crate) fn of_dequeue(enqueue_gap: u64, gap: u64, place: usize) -> Position
         ensures { position_of result ≡ record {
           gap = gap;
@@ -57,7 +57,7 @@ impl Position {
         }
     }
 
-    /// Whether it stands after another, if one is given.
+    /// Returns whether this position stands after another; false if none is given.
     pub(crate) fn stands_after(self, other: Option<Position>) -> bool
         ensures { MatchOption other (result ≡ false) (λ p. IsTrue result ↔ StandsBefore (position_of p) (position_of self)) }
     {

@@ -5,20 +5,20 @@ ghost use Rattle.linearizer.specs.Inner.Sweep.{IsFirstLeft, IsTaken};
 
 use std::marker::Model;
 
-/// One above the greatest place that is packed.
+/// The number of places that fit into a packed word: it gives a place 24 bits, and leaves 40 for the time.
 pub(crate) const PLACES: u64 = 1 << 24;
 
-/// A value or an operation by its place, and a time of it.
+/// A value or an operation by its place, with one of its times.
 #[derive(Clone, Copy)]
 pub(crate) struct Timed {
     pub(crate) time: u64,
     pub(crate) place: usize,
 }
 
-/// The same in one word, seen as the time and the place.
+/// A time and a place packed into one word, seen as both.
 #[derive(Clone, Copy)]
 pub(crate) struct PackedTimed {
-    // The time in the upper bits, and the place.
+    // The time in the upper bits, the place in the lower ones.
     word: u64,
 }
 
@@ -49,7 +49,7 @@ impl PackedTimed {
         }
     }
 
-    /// Both in one number, by which lesser times come first, and at one time lesser places.
+    /// Returns the packed word. Words compare by time, then by place.
     #[inline(always)]
     pub(crate) fn word(self) -> u64
         ensures { result ≡ PLACES * self.time + self.place }
@@ -57,7 +57,7 @@ impl PackedTimed {
         self.word
     }
 
-    /// The place alone.
+    /// Returns the place alone.
     #[inline(always)]
     pub(crate) fn place(self) -> u32
         ensures { result ≡ self.place }
@@ -76,7 +76,8 @@ impl PackedTimed {
     }
 }
 
-/// The place of the first entry whose value is left, where all before the place `from` are taken; or that behind the last.
+/// Returns the index of the first entry whose value is left, or the number of entries if none is. All entries before
+/// `from` are taken.
 pub(crate) fn first_left(entries: &[PackedTimed], taken: &[bool], from: usize) -> usize
     requires flagged { All (λ entry. entry.place < length taken.now) entries.now }
     requires before { All (IsTaken taken.now) (take from entries.now) }

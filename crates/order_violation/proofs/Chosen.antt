@@ -1,4 +1,4 @@
--- A value that overtakes another is an order violation, and each order violation is one.
+-- A value that overtakes another is an order violation, and each order violation is such a value.
 use Rattle.order_violation.proofs.Common.{[], All, All-append, All-contains, All-nil, All-push, arith, call_or_never}
 use Rattle.order_violation.proofs.Common.{Contains, Contains-append_left, Contains-append_right, Contains-push}
 use Rattle.order_violation.proofs.Common.{dequeue_call, dequeue_of, dequeue_return, enqueue_call, EntersBefore, false}
@@ -26,12 +26,12 @@ use Rattle.value_match.proofs.Lives.{dequeued_if_called}
 use Rattle.value_match.proofs.ToldPlaces.{clear_life, clear_on, life_value, maybe_on, value_lives}
 use Rattle.value_match.proofs.Lists.{one_more}
 
--- what ends a life is a dequeue of its value
+-- the dequeue of a life is a dequeue of its value
 pub did_dequeue : (operations : List Operation) (life : Life) (d : Operation) (is : IsLife (on operations) life) → dequeue_of life ≡ Some d
     → Did operations d (Deq is.0)
 did_dequeue operations life d is dequeues = MatchOption-at_some (NoneDid operations (Deq is.0)) (λ d. Did operations d (Deq is.0)) d dequeues is.2
 
--- no dequeue is called after NEVER, and one that returns before it is called before it
+-- no dequeue is called after `NEVER`, and one that returns before it is called before it
 called_by : (operations : List Operation) (v : ℕ) (dequeue : Option Operation) → AreComplete operations
     → MatchOption dequeue (NoneDid operations (Deq v)) (λ d. Did operations d (Deq v))
     → (call_or_never dequeue ≤ NEVER) × (return_or_never dequeue < NEVER → call_or_never dequeue < NEVER)
@@ -41,7 +41,7 @@ called_by operations v (Some d) complete did =
     let order = call_by_return operations d complete did.0 in
     (omega arith, λ before. omega arith)
 
--- of two dequeues the first by place is called before the other returns
+-- if a dequeue has a lower place than another, it is called before the other returns
 pub called_first : (operations : List Operation) (p q : ℕ) (a b : Option Operation) → AreComplete operations → p < q
     → IsMaybeAt operations (Some p) a → IsMaybeAt operations (Some q) b → call_or_never a < return_or_never b
 called_first operations p q (Some x) (Some y) complete below at_x at_y =
@@ -51,7 +51,7 @@ called_first operations p q (Some x) (Some y) complete below at_x at_y =
 called_first operations p q None b complete below at_x at_y = elim at_x [ ]
 called_first operations p q (Some x) None complete below at_x at_y = elim at_y [ ]
 
--- where there is no order violation, no value overtakes another
+-- without an order violation, no value overtakes another
 pub none_overtakes : (operations : List Operation) (a b : Life) → IsClear (on operations) → NoOrderViolation (on operations) → IsLife (on operations) a
     → IsLife (on operations) b → ¬ (Overtakes b a)
 none_overtakes operations a b clear none is_a is_b overtakes =
@@ -74,14 +74,14 @@ module _ (history : Contents) (clear : IsClear (course_of history)) where
   abbrev all : List Operation
   all = timeline history.initial history.operations
 
-  -- when the value of a life is called to be dequeued
+  -- the call of a life's dequeue
   called : (life : Life) → IsLife (course_of history) life
       → (dequeue_call life ≤ NEVER) × (dequeue_return life < NEVER → dequeue_call life < NEVER)
   called life is =
       let there = clear_life history.initial history.operations clear life is in
       called_by all there.0 (dequeue_of life) (clear_on history.initial history.operations clear).complete there.2
 
-  -- of two dequeues the first by place is called before the other returns
+  -- if a dequeue has a lower place than another, it is called before the other returns
   pub called_in_order : (p q : ℕ) (a b : Option Operation) → p < q → IsMaybeOperation history.operations (Some p) a
       → IsMaybeOperation history.operations (Some q) b → call_or_never a < return_or_never b
   called_in_order p q a b below at_p at_q =
@@ -89,7 +89,7 @@ module _ (history : Contents) (clear : IsClear (course_of history)) where
       (maybe_on history.initial history.operations (Some p) a at_p) (maybe_on history.initial history.operations (Some q) b at_q)
 
   module _ (values : List MatchedValue) (holds : HoldsValues history values) where
-    -- a value is a life, and a life is that of a value
+    -- each value is a life, and each life is that of a value
     is_value : (value : MatchedValue) → Contains values value → IsLife (course_of history) value.life
     is_value = value_lives history.initial history.operations clear values holds
 
@@ -104,7 +104,7 @@ module _ (history : Contents) (clear : IsClear (course_of history)) where
         All-contains (λ a. ¬ (Overtakes b.life a.life)) values a (All-contains (λ b. NonePasses (Overtakes b.life) values) values b none among_b) among_a
         (rw (is_a, is_b) violation.overtakes)
 
-    -- the first of the values that overtake another is the first of all lives that do
+    -- the first value that overtakes another is the first life that does
     first_of_lives : (b : MatchedValue) → IsFirstOvertaking values values b → IsFirstOvertaker history b
     first_of_lives b is = record {
       is_life = is_value b is.among;
@@ -120,7 +120,7 @@ module _ (history : Contents) (clear : IsClear (course_of history)) where
           → dequeue_return b.life ≤ dequeue_return other.life) values y is.first among_y z among_z (rw (same_y, same_z) overtakes));
     }
 
-    -- what is found among the values is found of all lives
+    -- a search among the values finds the first of all lives
     pub first_found : (found : Option MatchedValue) → FindsFirst values values found → IsFirstFound history found
     first_found None none = no_overtaking none
     first_found (Some b) is = first_of_lives b is
@@ -142,7 +142,7 @@ module _ (history : Contents) (clear : IsClear (course_of history)) where
             overtakes = longest.passes;
           }
 
-      -- the first value that overtakes another, with the longest that it overtakes, is the chosen pair
+      -- the first value that overtakes another, with the longest-staying value that it overtakes, is the chosen pair
       is_chosen_pair : (p : ℕ) → b.dequeue ≡ Some p
           → IsChosenPair history.initial history.operations (record { enq_a = a.source; enq_b = b.source; deq_b = p; deq_a = a.dequeue })
       is_chosen_pair p named = record {
@@ -159,16 +159,16 @@ module _ (history : Contents) (clear : IsClear (course_of history)) where
         };
       }
 
-      -- so their pair is the answer
+      -- so this pair is the answer
       pub is_answer : IsOrderAnswer history.initial history.operations (pair_of a b)
       is_answer =
           let dequeue = dequeued_if_called b.life is_violation.is_dequeued in
           let place = place_there (timed history.operations) b.dequeue (dequeue_of b.life) dequeue.0 first.named.1 dequeue.1 in
           rw place.1 (is_chosen_pair place.0 place.1)
 
--- ---- the first that overtakes another, of two lists of candidates and of one more in a scan
+-- ---- the first value that overtakes another, among two lists of candidates, and with one more candidate
 
--- a value that overtakes another is no sooner than this one
+-- each value that overtakes another is dequeued no sooner than b
 abbrev ComesNoLater : List MatchedValue → MatchedValue → MatchedValue → Type 0
 ComesNoLater values b other = (a : MatchedValue) → Contains values a → Overtakes other.life a.life → dequeue_return b.life ≤ dequeue_return other.life
 
@@ -177,7 +177,7 @@ overtake_nobody : (values candidates : List MatchedValue) (b : MatchedValue) →
 overtake_nobody values candidates b none k d within a among overtakes =
     absurd (All-contains (λ a. ¬ (Overtakes (get_or candidates k d).life a.life)) values a (none k d within) among overtakes)
 
--- the first of some candidates is the first of others of which none is sooner
+-- the first of some candidates is the first of others, if none of these is sooner
 first_of : (values side candidates : List MatchedValue) (x : MatchedValue) → IsFirstOvertaking values side x → Contains candidates x
     → All (ComesNoLater values x) candidates → IsFirstOvertaking values candidates x
 first_of values side candidates x is among first = record {
@@ -188,7 +188,7 @@ first_of values side candidates x is among first = record {
   first = first;
 }
 
--- of the first of some candidates and the first of others, one that is dequeued no later than both is the first of both
+-- of the first candidates of two lists, the one dequeued no later than both is the first of all
 pub sooner_is_first : (values low high side : List MatchedValue) (a b r : MatchedValue) → IsFirstOvertaking values low a → IsFirstOvertaking values high b
     → IsFirstOvertaking values side r → Contains (low ++ high) r → dequeue_return r.life ≤ dequeue_return a.life
     → dequeue_return r.life ≤ dequeue_return b.life → IsFirstOvertaking values (low ++ high) r
@@ -197,20 +197,20 @@ sooner_is_first values low high side a b r is_a is_b is among before_a before_b 
     (λ k d within x among over. omega (arith, before_a, is_a.first k d within x among over))
     (λ k d within x among over. omega (arith, before_b, is_b.first k d within x among over)))
 
--- if none of the others overtakes a value, the first is the first of all
+-- if none of the second part overtakes a value, the first of the first part is the first of all
 pub low_is_first : (values low high : List MatchedValue) (a : MatchedValue) → IsFirstOvertaking values low a
     → All (λ b. NonePasses (Overtakes b.life) values) high → IsFirstOvertaking values (low ++ high) a
 low_is_first values low high a is none = first_of values low (low ++ high) a is (Contains-append_left low high a is.among)
     (All-append (ComesNoLater values a) low high is.first (overtake_nobody values high a none))
 
--- if none of the first part overtakes, the first of the second part is the first
+-- if none of the first part overtakes a value, the first of the second part is the first of all
 pub high_is_first : (values low high : List MatchedValue) (found : Option MatchedValue) → All (λ b. NonePasses (Overtakes b.life) values) low
     → FindsFirst values high found → FindsFirst values (low ++ high) found
 high_is_first values low high None none not = All-append (λ b. NonePasses (Overtakes b.life) values) low high none not
 high_is_first values low high (Some b) none is = first_of values high (low ++ high) b is (Contains-append_right low high b is.among)
     (All-append (ComesNoLater values b) low high (overtake_nobody values low b none) is.first)
 
--- it is the first of itself
+-- a single candidate is the first
 first_of_one : (values : List MatchedValue) (x a : MatchedValue) → Contains values a → Overtakes x.life a.life → IsFirstOvertaking values (x ∷ []) x
 first_of_one values x a among overtakes = record {
   among = Contains-push [] x;
@@ -234,7 +234,7 @@ first_stays values candidates i x first within is so_far not =
     go None none = All-append (λ b. NonePasses (Overtakes b.life) values) (take i candidates) (x ∷ []) none nobody
     go (Some a) is_a = low_is_first values (take i candidates) (x ∷ []) a is_a nobody
 
--- the next candidate overtakes another
+-- the next candidate overtakes a value
 pub first_changes : (values candidates : List MatchedValue) (i : ℕ) (x a : MatchedValue) (first found : Option MatchedValue) → i < length candidates
     → x ≡ get_or candidates i x → FindsFirst values (take i candidates) first → Contains values a → Overtakes x.life a.life
     → ((values xs ys : List MatchedValue) → FindsFirst values xs first → FindsFirst values ys (Some x) → FindsFirst values (xs ++ ys) found)
@@ -243,12 +243,12 @@ first_changes values candidates i x a first found within is so_far among overtak
     subst (λ seen. FindsFirst values seen found) (sym (one_more candidates i x within is))
     (of_both values (take i candidates) (x ∷ []) so_far (first_of_one values x a among overtakes))
 
--- the values that b overtakes are among those that entered before it, so the longest of these is the longest of those,
--- unless b overtakes none
+-- the values that b overtakes are among those that entered before it, so the longest of these is the longest that b
+-- overtakes, unless b overtakes none
 pub none_overtaken : (values : List MatchedValue) (b : Life) → NonePasses (EntersBefore (enqueue_call b)) values → NonePasses (Overtakes b) values
 none_overtaken values b none k d within overtakes = none k d within overtakes.0
 
--- the longest of those before is overtaken by what is dequeued before it
+-- b overtakes the longest of those before it, if b is dequeued before it
 pub longest_is_overtaken : (values : List MatchedValue) (b : Life) (a : MatchedValue) → IsLongestOf (EntersBefore (enqueue_call b)) values a
     → dequeue_return b < dequeue_call a.life → IsLongestOf (Overtakes b) values a
 longest_is_overtaken values b a is later = record {
@@ -257,12 +257,12 @@ longest_is_overtaken values b a is later = record {
   longest = λ k d within overtakes. is.longest k d within overtakes.0;
 }
 
--- if the longest of those before isn't overtaken, none is
+-- if b doesn't overtake the longest of those before it, it overtakes none
 pub longest_is_not_overtaken : (values : List MatchedValue) (b : Life) (a : MatchedValue) → IsLongestOf (EntersBefore (enqueue_call b)) values a
     → dequeue_call a.life ≤ dequeue_return b → NonePasses (Overtakes b) values
 longest_is_not_overtaken values b a is sooner k d within overtakes = omega (arith, (is.longest k d within overtakes.0).0, overtakes.1)
 
--- if a longest overtaken value was found, a value is overtaken, otherwise none is
+-- if a longest overtaken value was found, a value is overtaken
 pub overtaken_one : (values : List MatchedValue) (b : Life) (longest : Option MatchedValue) → FindsLongest (Overtakes b) values longest
     → is_some longest ≡ true → (a : MatchedValue) × Contains values a × Overtakes b a.life
 overtaken_one values b None none some = cc

@@ -13,9 +13,9 @@ use Rattle.value_match.specs.declared.violation.Violation.TheVariants.{Order}
 use Rattle.value_match.specs.Choice.{IsChosenOrderViolation}
 use Rattle.order_violation.specs.declared.pair.OrderPair.{OrderPair}
 
--- ---- values that are dequeued before others which were enqueued before them
+-- ---- values that overtake others
 
--- of the candidates that overtake one of the values, the one that is dequeued first
+-- the first-dequeued candidate that overtakes one of the values
 pub record IsFirstOvertaking (values candidates : List MatchedValue) (b : MatchedValue) : Type 0 where
   pub among : Contains candidates b
   pub overtaken : MatchedValue
@@ -23,7 +23,7 @@ pub record IsFirstOvertaking (values candidates : List MatchedValue) (b : Matche
   pub overtakes : Overtakes b.life overtaken.life
   pub first : All (λ other. (a : MatchedValue) → Contains values a → Overtakes other.life a.life → dequeue_return b.life ≤ dequeue_return other.life) candidates
 
--- of the accepted values that overtake another, the one that is dequeued first
+-- the first-dequeued value of the history that overtakes another
 pub record IsFirstOvertaker (history : Contents) (b : MatchedValue) : Type 0 where
   pub is_life : IsLife (course_of history) b.life
   pub named : IsNamed history.initial history.operations b.source b.dequeue b.life
@@ -32,11 +32,11 @@ pub record IsFirstOvertaker (history : Contents) (b : MatchedValue) : Type 0 whe
   pub overtakes : Overtakes b.life overtaken
   pub first : (x a : Life) → IsLife (course_of history) x → IsLife (course_of history) a → Overtakes x a → dequeue_return b.life ≤ dequeue_return x
 
--- the candidate that overtakes a value and is dequeued first, or none if none overtakes
+-- the first-dequeued candidate that overtakes a value, or none if none does
 abbrev pub FindsFirst : List MatchedValue → List MatchedValue → Option MatchedValue → Type 0
 FindsFirst values candidates found = MatchOption found (All (λ b. NonePasses (Overtakes b.life) values) candidates) (λ b. IsFirstOvertaking values candidates b)
 
--- the one of the accepted values that overtake another that is dequeued first, or none where no two are an order violation
+-- the first-dequeued value that overtakes another, or none if no two are an order violation
 abbrev pub IsFirstFound : Contents → Option MatchedValue → Type 0
 IsFirstFound history found = MatchOption found (NoOrderViolation (course_of history)) (IsFirstOvertaker history)
 

@@ -7,9 +7,9 @@ ghost use Rattle.value_match.specs.Violations.{Overtakes};
 
 use value_match::{Life, LongestTable, MatchedValue, Values};
 
-/// Returns the one of two values, as far as there are any, that is dequeued first.
+/// Returns whichever of two values is dequeued first, as far as they are given.
 ///
-/// If each was found among some candidates, this is what is found among all of them.
+/// If each is the first that overtakes among some candidates, the result is the first among all of them.
 pub fn first_of(first: Option<MatchedValue>, second: Option<MatchedValue>) -> Option<MatchedValue>
     ensures { (values xs ys : List MatchedValue) → FindsFirst values xs first → FindsFirst values ys second → FindsFirst values (xs ++ ys) result }
 {
@@ -26,8 +26,8 @@ pub fn first_of(first: Option<MatchedValue>, second: Option<MatchedValue>) -> Op
     }
 }
 
-/// Whether b is dequeued before a is, though a was enqueued before b. Of most that b doesn't overtake, their dequeues alone
-/// say so.
+/// Returns whether b was dequeued before a, though a was enqueued before b. The dequeues are compared first, since
+/// they mostly decide.
 #[inline(always)]
 pub(crate) fn overtakes(b: &Life, a: &Life) -> bool
     ensures { IsTrue result ↔ Overtakes b.now a.now }
@@ -35,7 +35,7 @@ pub(crate) fn overtakes(b: &Life, a: &Life) -> bool
     b.dequeue_return() < a.dequeue_call() && a.enqueue_return() < b.enqueue_call()
 }
 
-/// Returns the longest of the values that entered before b, if b overtakes it; otherwise b overtakes none.
+/// Returns the longest of the values that entered before b, if b overtakes it. Otherwise b overtakes none.
 #[inline(always)]
 pub(crate) fn if_overtaken(b: &Life, longest: Option<MatchedValue>) -> Option<MatchedValue>
     ensures { (values : List MatchedValue) → FindsLongest (EntersBefore (enqueue_call b.now)) values longest → FindsLongest (Overtakes b.now) values result }
@@ -49,9 +49,9 @@ pub(crate) fn if_overtaken(b: &Life, longest: Option<MatchedValue>) -> Option<Ma
     }
 }
 
-/// Returns of the candidates that overtake a value of the table the one that is dequeued first.
+/// Returns the first-dequeued candidate that overtakes a value of the table.
 ///
-/// Time O(m log n) for m candidates and n values.
+/// Takes O(m log n) time for m candidates and n values.
 pub fn first_overtaking(table: &LongestTable, candidates: &Values) -> Option<MatchedValue>
     ensures { FindsFirst table.now candidates.now result }
 {

@@ -12,13 +12,12 @@ use history_merge::OpId;
 use std::alloc::{AllocError, Global};
 use value_match::{Life, LongestTable, MatchedValue, Matching};
 
-/// Finds the chosen pair of values dequeued against the order of their enqueues, if there is one: of the values
-/// dequeued before another that was enqueued before them the one dequeued first, and of those others the one that
-/// stays longest.
-/// `verdicts::decide` doesn't call it, since it orders the values first: this is for callers who ask for no more.
+/// Returns the chosen pair of values dequeued against the order of their enqueues, if there is one: the
+/// first-dequeued value that overtakes another, and the longest-staying value that it overtakes.
 ///
-/// The kinds of violation are this project's own. Time O(n log n) for n values, and two words of memory for each
-/// while it runs. `AllocError` comes only if there isn't as much.
+/// This is for callers who ask for no more: `verdicts::decide` orders the values and doesn't call it. The kinds of
+/// violation are this project's own. Takes O(n log n) time for n values, and two words of memory for each while it
+/// runs. The only error is out of memory.
 pub fn find_order(alloc: Global, matching: &Matching) -> Result<Option<OrderPair>, AllocError>
     ensures { IfOk result (IsOrderAnswer matching.now.initial matching.now.operations) }
 {
@@ -27,10 +26,10 @@ pub fn find_order(alloc: Global, matching: &Matching) -> Result<Option<OrderPair
     Ok(chosen_pair(matching, first))
 }
 
-/// Returns the pair of the value that overtakes another and is dequeued first, if there is one, and the longest of
-/// those that it overtakes.
+/// Returns the pair of the first-dequeued value that overtakes another, if there is one, and the longest-staying
+/// value that it overtakes.
 ///
-/// Time O(n) for n values, and no memory.
+/// Takes O(n) time for n values, and no memory.
 pub fn chosen_pair(matching: &Matching, first: Option<MatchedValue>) -> Option<OrderPair>
     requires { IsFirstFound matching.now first }
     ensures { IsOrderAnswer matching.now.initial matching.now.operations result }
@@ -40,7 +39,7 @@ pub fn chosen_pair(matching: &Matching, first: Option<MatchedValue>) -> Option<O
     pair_of(a, b)
 }
 
-/// The pair of two values, if the second is dequeued.
+/// Returns the pair of two values, if the second is dequeued.
 fn pair_of(a: MatchedValue, b: MatchedValue) -> Option<OrderPair>
     ensures { result ≡ pair_of a b }
 {
@@ -52,7 +51,7 @@ fn pair_of(a: MatchedValue, b: MatchedValue) -> Option<OrderPair>
     })
 }
 
-/// Returns of the values that b overtakes, whose dequeue stands at this place, the one that stays longest.
+/// Returns the longest-staying value that b overtakes, if there is one. `dequeue` is the place of b's dequeue.
 fn longest_among(matching: &Matching, b: &Life, dequeue: &Option<OpId>) -> Option<MatchedValue>
     requires { IsMaybeOperation matching.now.operations dequeue.now (dequeue_of b.now) }
     ensures { (values : List MatchedValue) × IsClear (course_of matching.now) × HoldsValues matching.now values × FindsLongest (Overtakes b.now) values result }
@@ -60,7 +59,7 @@ fn longest_among(matching: &Matching, b: &Life, dequeue: &Option<OpId>) -> Optio
     let values = matching.values();
     let mut longest: Option<MatchedValue> = None;
     for place in 0..values.len() {
-        // Most are dequeued before b, as the places say without a look at the operations.
+        // Most values are dequeued before b, as the places show without a look at the operations.
         if let Some(first) = values.get(place).dequeue
             && let Some(second) = dequeue
             && first.number() < second.number()
@@ -75,7 +74,7 @@ fn longest_among(matching: &Matching, b: &Life, dequeue: &Option<OpId>) -> Optio
     longest
 }
 
-/// Returns the one of the value so far, if there is one, and of another that stays longer.
+/// Returns whichever stays longer, the value so far, if there is one, or the other.
 fn longer_with(longest: Option<MatchedValue>, other: MatchedValue) -> MatchedValue
     ensures { MatchOption longest (result ≡ other) (λ so_far. IsLongerOf so_far other result) }
 {

@@ -6,12 +6,12 @@ ghost use Rattle.packed_events.specs.Inner.Packed.{joined, tag_of, value_of};
 use event_records::{Event, MAX_TICKET, What};
 use std::marker::Model;
 
-/// How many tickets differ in their lower parts alone.
+/// The number of tickets with the same upper part.
 const LOWER: u64 = 1 << 32;
 
 const _: () = prove!(MAX_TICKET < 256 * LOWER);
 
-/// What a thread called, or what the queue answered, without the value.
+/// The kind of an event without its value.
 #[derive(Clone, Copy)]
 pub(crate) enum Tag {
     CallEnq,
@@ -25,7 +25,7 @@ pub(crate) enum Tag {
 /// An event in 16 bytes, half of what [`Event`] takes; seen as the event.
 #[derive(Clone, Copy)]
 pub struct PackedEvent {
-    // 0 if there is none.
+    // The value, or 0 if there is none.
     value: u64,
     ticket: u32,
     upper_ticket: u8,
@@ -83,7 +83,7 @@ impl PackedEvent {
         }
     }
 
-    /// Returns the event.
+    /// Unpacks the event.
     #[inline(always)]
     pub fn unpack(self) -> Event
         ensures { result ≡ self }
@@ -117,7 +117,7 @@ fn tag_of(what: What) -> Tag
     }
 }
 
-/// The value of what was called or answered, or 0.
+/// Returns the value of this kind of event, or 0 if it has none.
 #[inline(always)]
 fn value_of(what: What) -> u64
     ensures { result ≡ value_of what }

@@ -18,14 +18,14 @@ in_place items slice sorted len same all long =
     let none : drop (length sorted) items ≡ [] = drop_all (length sorted) items (omega (arith, long, ap length same)) in
     rw (none, append-nil sorted) (take_all len sorted (omega (arith, long, all, ap length same)))
 
--- a list whose elements were moved twice holds what it held
+-- a list permuted twice is a permutation
 pub moved_twice : {X : Type 0} (before items slice sorted : List X) (len : ℕ) → IsPermutation before items → slice ≡ items → length items ≡ len
     → length sorted ≡ length slice → IsPermutation slice sorted
     → IsPermutation before (take len (sorted ++ drop (length sorted) items))
 moved_twice before items slice sorted len first same all long second =
     IsPermutation-trans before items _ first (moved_in_place items slice sorted len same all long second)
 
--- what a test of two neighbours decides
+-- a test of two neighbours decides their order
 tested : (a b : ℕ) → true ≡ is_some_and is_le (Some (nat_cmp a b)) → a ≤ b
 tested a b answer = non_decreasing_from_is_sorted (a ∷ b ∷ []) true at 0 1 0 (omega arith) (omega arith)
   where

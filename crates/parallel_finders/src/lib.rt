@@ -13,8 +13,9 @@ pub use order::{find_order_par, order_in_pieces};
 pub use search::{InPieces, OnePiece, WitnessSearch};
 pub use witness::{find_witness_par, witness_in_pieces};
 
-/// The most pieces of a search.
+/// The maximum number of pieces of a search.
 pub const MAX_PIECES: usize = 64;
 
-/// A search among fewer values than this, and of fewer empty dequeues, is made in one piece, and starts no thread.
+/// The minimum number of values, or of empty dequeues, for a search in pieces. A smaller one is made in one piece,
+/// and starts no thread.
 pub const MIN_ITEMS: usize = 100_000;

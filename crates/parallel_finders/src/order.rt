@@ -10,13 +10,12 @@ use std::alloc::{AllocError, Global};
 use std::thread::Threads;
 use value_match::{LongestTable, Matching, Values, fronts_of};
 
-/// Finds what `find_order` finds, by a search in pieces that may run at once. Like that it is for callers:
-/// `verdicts::decide_par` doesn't call it.
+/// Returns what `find_order` returns, but searches in pieces that may run at once. Like `find_order` it is for
+/// callers: `verdicts::decide_par` doesn't call it.
 ///
-/// Each piece finds its own value that overtakes another and is dequeued first; of these the one dequeued first
-/// counts, whichever piece ends first. Few values are searched in one piece. If no thread can be started, the
-/// caller's thread does the work. Time and memory are those of `find_order`. `AllocError` comes only if memory runs
-/// out.
+/// Each piece finds its own first-dequeued value that overtakes another; the one dequeued first counts, whichever
+/// piece ends first. Few values are searched in one piece. If no thread can be started, the caller's thread does the
+/// work. Time and memory are those of `find_order`. The only error is out of memory.
 pub fn find_order_par<R: Threads + Sync>(
     rt: &R,
     alloc: Global,
@@ -33,7 +32,7 @@ pub fn find_order_par<R: Threads + Sync>(
     }
 }
 
-/// Searches any number of values in this many pieces.
+/// Returns what `find_order` returns, searching in this many pieces however few values there are.
 pub fn order_in_pieces<R: Threads + Sync>(
     rt: &R,
     alloc: Global,

@@ -5,7 +5,7 @@ use order_violation::{first_of, first_overtaking};
 use std::thread::{Threads, join};
 use value_match::{LongestTable, MatchedValue, Values};
 
-/// Finds, in pieces, the candidate that is dequeued first of those that overtake a value of the table.
+/// Returns the first-dequeued candidate that overtakes a value of the table, searching in pieces.
 #[cycle(halves)]
 pub(crate) fn first_overtaking_par<R: Threads + Sync>(
     rt: &R,

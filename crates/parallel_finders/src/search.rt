@@ -9,11 +9,11 @@ use std::alloc::{AllocError, Global};
 use std::thread::Threads;
 use value_match::Matching;
 
-/// A search for covered empty dequeues, in one piece or in several. `is_ready` says which can be made.
+/// A search for covered empty dequeues, in one piece or in several. `is_ready` holds of searches that can be made.
 pub trait WitnessSearch {
     ghost is_ready: { Self → Type 0 };
 
-    /// Finds what `find_witness` finds.
+    /// Returns what `find_witness` returns.
     fn find(&self, alloc: Global, matching: &Matching) -> Result<WitnessAnswer, AllocError>
         requires { is_ready self.now }
         ensures { IfOk result (IsWitnessAnswer matching.now.initial matching.now.operations) };
@@ -35,7 +35,7 @@ impl WitnessSearch for OnePiece {
 #[derive(Drop)]
 pub struct InPieces<'a, R> {
     pub rt: &'a R,
-    /// How many pieces, from 1 to [`MAX_PIECES`].
+    /// The number of pieces, from 1 to [`MAX_PIECES`].
     pub pieces: usize,
 }
 

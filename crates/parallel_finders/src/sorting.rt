@@ -5,7 +5,7 @@ use rayon::prelude::*;
 use std::thread::Threads;
 use value_match::{Front, presort};
 
-/// Sorts by rising enqueue return: in one pass if each front stands near its place, otherwise in several threads.
+/// Sorts by rising enqueue return: in one pass if each front is near its sorted place, otherwise in several threads.
 pub(crate) fn sort_fronts<R: Threads + Sync>(rt: &R, fronts: &mut Vec<Front>)
     ensures permutation { IsPermutation fronts.old.items fronts.new.items }
     ensures rises { IsNonDecreasingBy (λ front. front.enqueue_return) fronts.new.items }

@@ -43,7 +43,7 @@ pub(crate) fn windows_at_par<R: Threads + Sync>(
     windows_of_both(first?, second?)
 }
 
-/// Returns what the empty dequeues of two pieces give together.
+/// Returns what was found in the windows of two pieces together.
 fn windows_of_both(low: WindowsAnswer, high: WindowsAnswer) -> Result<WindowsAnswer, AllocError>
     ensures { IfOk result (λ windows. AreTogether low high windows) }
 {
@@ -53,7 +53,7 @@ fn windows_of_both(low: WindowsAnswer, high: WindowsAnswer) -> Result<WindowsAns
     }
 }
 
-/// Returns it if the first piece has these gaps.
+/// Returns what was found in two pieces, the first of which has these gaps.
 fn after_gaps(gaps: Vec<u64>, high: WindowsAnswer) -> Result<WindowsAnswer, AllocError>
     ensures { IfOk result (λ windows. AreTogether (Free gaps) high windows) }
 {
@@ -72,7 +72,7 @@ fn gaps_of_both(low: Vec<u64>, high: &[u64]) -> Result<Vec<u64>, AllocError>
     Ok(gaps)
 }
 
-/// Returns the one that returned first of the first piece's covered dequeue and the second piece's, if it has one.
+/// Returns whichever returned first, the first piece's covered dequeue or the second piece's, if it has one.
 fn sooner_covered(first: EmptyAnswer, high: &WindowsAnswer) -> EmptyAnswer
     ensures { AreTogether (Covered first) high.now (Covered result) }
 {

@@ -9,13 +9,12 @@ use std::alloc::{AllocError, Global};
 use std::thread::Threads;
 use value_match::Matching;
 
-/// Finds what `find_witness` finds, by a search in pieces that may run at once.
+/// Returns what `find_witness` returns, but searches in pieces that may run at once.
 ///
-/// Each piece finds the gaps of its empty dequeues, or the one of its own whose window is covered and that returned
-/// first; of these the one that returned first counts, whichever piece ends first. Few empty dequeues, or any among
-/// few values, are searched in one piece. If no thread can be started, the caller's thread does the work. Time and
-/// memory are those of `find_witness`, and the gaps of some pieces once more. `AllocError` comes only if memory runs
-/// out.
+/// Each piece finds the gaps of its empty dequeues, or its first-returned covered one; of the covered ones the one
+/// that returned first counts, whichever piece ends first. Few empty dequeues, or any among few values, are searched
+/// in one piece. If no thread can be started, the caller's thread does the work. Time and memory are those of
+/// `find_witness`, and memory for the gaps of some pieces once more. The only error is out of memory.
 pub fn find_witness_par<R: Threads + Sync>(
     rt: &R,
     alloc: Global,
@@ -32,7 +31,8 @@ pub fn find_witness_par<R: Threads + Sync>(
     witness_in_pieces(rt, alloc, matching, if few { 1 } else { pieces })
 }
 
-/// Searches any number of values and empty dequeues in this many pieces.
+/// Returns what `find_witness` returns, searching in this many pieces however few values and empty dequeues there
+/// are.
 pub fn witness_in_pieces<R: Threads + Sync>(
     rt: &R,
     alloc: Global,

@@ -1,4 +1,4 @@
--- Lists made of one block for each thread, and numbers that stand at most once in a list.
+-- Lists made of one block for each thread, and numbers that are in a list at most once.
 use Rattle.std.proofs.Common.{◌≡◌, ◌≢◌, ℕ, zero, suc, ◌+◌, ◌<◌, ◌≤◌, Bool, true, cond, List, [], ◌∷◌, ◌++◌, map}
 use Rattle.std.proofs.Common.{refl, sym, ◌∙◌, ap, subst, inl, inr}
 use Rattle.std.proofs.Common.{arith, eqb, append_assoc, add-one}
@@ -16,27 +16,27 @@ use Rattle.history_merge.proofs.Distinct.{contains_cons, not_in_none}
 
 -- ---- blocks
 
--- the blocks of the first n threads, one after the other
+-- the blocks of the first n threads, joined
 abbrev pub blocks : {X : Type 0} → (ℕ → List X) → ℕ → List X
 blocks f zero = []
 blocks f (suc n) = blocks f n ++ f n
 
--- blocks that are the same make one list
+-- equal blocks make equal lists
 pub blocks_same : {X : Type 0} (f g : ℕ → List X) (n : ℕ) → ((t : ℕ) → t < n → f t ≡ g t) → blocks f n ≡ blocks g n
 blocks_same f g zero same = refl
 blocks_same {X} f g (suc n) same = ap (λ (l : List X). l ++ f n) (blocks_same f g n (λ t below. same t (omega arith)))
     ∙ ap (λ (l : List X). blocks g n ++ l) (same n (omega arith))
 
--- equal lists hold the same
+-- equal lists are permutations
 pub same_permutation : {X : Type 0} (xs ys : List X) → xs ≡ ys → IsPermutation xs ys
 same_permutation xs ys same = subst (IsPermutation xs) same (IsPermutation-refl xs)
 
--- no thread has anything
+-- blocks without elements make an empty list
 pub no_blocks : {X : Type 0} (n : ℕ) → [] ≡ blocks (λ (t : ℕ). let none : List X = [] in none) n
 no_blocks zero = refl
 no_blocks (suc n) = no_blocks n ∙ sym (append-nil _)
 
--- one block is longer at its end, and the others are the same
+-- one block grows at its end, and the others don't change
 pub blocks_grow : {X : Type 0} (f g : ℕ → List X) (u n : ℕ) (more : List X) → u < n → g u ≡ f u ++ more → ((t : ℕ) → (u ≡ t → ⊥) → g t ≡ f t)
     → IsPermutation (blocks f n ++ more) (blocks g n)
 blocks_grow f g u zero more within here others = absurd (omega arith)
@@ -56,7 +56,7 @@ blocks_grow {X} f g u (suc n) more within here others = elim (cases_eq u n) [
       IsPermutation-trans _ _ _ a (IsPermutation-trans _ _ _ b (IsPermutation-trans _ _ _ c (IsPermutation-trans _ _ _ d e)))
 ]
 
--- one block is longer at its front, and the others are the same
+-- one block grows at its front, and the others don't change
 pub blocks_lead : {X : Type 0} (f g : ℕ → List X) (u n : ℕ) (more : List X) → u < n → g u ≡ more ++ f u → ((t : ℕ) → (u ≡ t → ⊥) → g t ≡ f t)
     → IsPermutation (more ++ blocks f n) (blocks g n)
 blocks_lead f g u zero more within here others = absurd (omega arith)
@@ -78,7 +78,7 @@ blocks_lead {X} f g u (suc n) more within here others = elim (cases_eq u n) [
 
 -- ---- ranges
 
--- a range that is longer by one
+-- a range with one more number
 pub range_more : (n : ℕ) → range_with_len 0 (suc n) ≡ range_with_len 0 n ++ n ∷ []
 range_more n =
     sym (map-id (range_with_len 0 (suc n)))
@@ -96,9 +96,9 @@ joined_blocks {X} f (suc n) =
     ∙ ap (λ (l : List X). l ++ (f n ++ [])) (joined_blocks f n)
     ∙ ap (λ (l : List X). blocks f n ++ l) (append-nil (f n))
 
--- ---- at most once
+-- ---- lists without repeated keys
 
--- no two items have one key
+-- no two items have the same key
 abbrev pub Once : {X : Type 0} → (X → ℕ) → List X → Type 0
 Once key xs = (v : ℕ) → count_by (λ x. eqb (key x) v) xs ≤ 1
 
@@ -109,7 +109,7 @@ at_least_one p (y ∷ xs) x among passes = elim (contains_cons y xs x among) [
   | inr later ↦ omega (arith, sum_by-cons (λ x. cond (p x) 1 0) y xs, at_least_one p xs x later passes)
 ]
 
--- the first of a list and a later one have different keys
+-- the first element of a list and a later one have different keys
 first_apart : {X : Type 0} (key : X → ℕ) (x : X) (xs : List X) (y : X) → Once key (x ∷ xs) → Contains xs y → key x ≢ key y
 first_apart key x xs y once among same =
     let here : ◌≡◌ {A = ℕ} (cond (eqb (key x) (key y)) 1 0) 1 = rw (eq-eqb (key x) (key y) same) refl in
@@ -119,7 +119,7 @@ first_apart key x xs y once among same =
 once_later : {X : Type 0} (key : X → ℕ) (x : X) (xs : List X) → Once key (x ∷ xs) → Once key xs
 once_later key x xs once v = omega (arith, once v, sum_by-cons (λ z. cond (eqb (key z) v) 1 0) x xs)
 
--- two elements with one key, which stands once, are one
+-- elements with the same key are equal, in a list without repeated keys
 pub once_same : {X : Type 0} (key : X → ℕ) (xs : List X) (x y : X) → Once key xs → Contains xs x → Contains xs y → key x ≡ key y → x ≡ y
 once_same key [] x y once in_x in_y same = absurd (not_in_none x in_x)
 once_same key (z ∷ xs) x y once in_x in_y same = elim (contains_cons z xs x in_x) [
@@ -133,17 +133,17 @@ once_same key (z ∷ xs) x y once in_x in_y same = elim (contains_cons z xs x in
   ]
 ]
 
--- keys that stand once differ
+-- in a list without repeated keys, the keys of each pair differ
 pub once_apart : {X : Type 0} (key : X → ℕ) (xs : List X) → Once key xs → AllPairs (λ x y. key x ≢ key y) xs
 once_apart key [] once = λ i j d below within. absurd (omega arith)
 once_apart key (x ∷ xs) once = pairs_cons (λ a b. key a ≢ key b) x xs (λ y among. first_apart key x xs y once among)
     (once_apart key xs (once_later key x xs once))
 
--- how often keys stand doesn't depend on the order
+-- a permutation of a list without repeated keys has none
 pub once_permutation : {X : Type 0} (key : X → ℕ) (xs ys : List X) → IsPermutation xs ys → Once key xs → Once key ys
 once_permutation key xs ys moved once v = omega (arith, once v, sum_by-IsPermutation (λ x. cond (eqb (key x) v) 1 0) xs ys moved)
 
--- elements whose keys stand once stand once
+-- elements with keys that aren't repeated aren't repeated
 pub once_map : {X : Type 0} (key : X → ℕ) (xs : List X) → Once (λ n. n) (map key xs) → Once key xs
 once_map key xs once v = omega (arith, once v, count_map key v xs)
   where
@@ -156,14 +156,14 @@ once_map key xs once v = omega (arith, once v, count_map key v xs)
       count_map k w ys,
     )
 
--- numbers above v
+-- no number of a range above v is v
 none_of_lower : (v a n : ℕ) → v < a → count_by (λ x. eqb x v) (range_with_len a n) ≡ 0
 none_of_lower v a zero below = refl
 none_of_lower v a (suc n) below =
     let here : ◌≡◌ {A = ℕ} (cond (eqb a v) 1 0) 0 = rw (ne_eqb a v (λ e. omega arith)) refl in
     omega (arith, sum_by-cons (λ x. cond (eqb x v) 1 0) a (range_with_len (a + 1) n), here, none_of_lower v (a + 1) n (omega arith))
 
--- each number of a range stands once
+-- a range has no number twice
 pub once_range : (a n : ℕ) → Once (λ x. x) (range_with_len a n)
 once_range a zero v = omega arith
 once_range a (suc n) v = elim (cases_eq a v) [

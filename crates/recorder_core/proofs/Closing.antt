@@ -1,4 +1,4 @@
--- A closed thread stays as it is.
+-- A closed thread doesn't change.
 use Rattle.std.proofs.Common.{◌≡◌, ℕ, ◌+◌, ◌<◌, ◌≤◌, Bool, true, false, cond, List, [], ◌∷◌, ◌++◌, Option, None, Some, refl, subst, inl, inr, arith}
 use Rattle.std.proofs.lemmas.Bool.{ne_eqb, cases_eq, lt-leb, or_right}
 use Rattle.std.proofs.lemmas.List.{take_all}
@@ -13,7 +13,7 @@ use Rattle.recorder_core.specs.Laws.{IsDone, NeedsOpenThread, events_in, collect
 use Rattle.recorder_core.proofs.Runs.{same_number, after_each, may_ask, may_push, may_return, may_close}
 use Rattle.recorder_core.proofs.Counts.{Counted, counted}
 
--- if a thread is closed, no event of it is held and no operation is pending
+-- a closed thread holds no event and has no pending operation
 abbrev pub ClosedIdle : ℕ → List Step → Type 0
 ClosedIdle t steps = is_closed t steps ≡ true → (asks t steps + returns t steps ≤ pushes t steps) × (asks t steps ≤ returns t steps)
 
@@ -50,11 +50,11 @@ closed_goes_on setting t before attempt k none = elim (cases_eq (thread_of attem
   | inr other ↦ other_closed t attempt.step before other k
 ]
 
--- a closed thread holds and awaits nothing
+-- a closed thread holds no event and has no pending operation, after any schedule
 pub closed_idle : (setting : Setting) (t : ℕ) (schedule : List Attempt) → ClosedIdle t (accepted setting schedule)
 closed_idle setting t schedule = after_each setting (ClosedIdle t) (λ closed. (omega arith, omega arith)) (closed_goes_on setting t) schedule
 
--- of a done schedule all events of a thread are collected
+-- a done schedule has collected all events of each thread
 pub all_collected : (setting : Setting) (schedule : List Attempt) → IsDone setting schedule → (t : ℕ) → t < setting.threads
     → collected_in setting schedule t ≡ events_in setting schedule t
 all_collected setting schedule done t within =
@@ -64,7 +64,7 @@ all_collected setting schedule done t within =
     let c = (closed_idle setting t schedule d.0).0 in
     take_all (drained t steps) (events setting t steps) (omega (arith, k.events_are, d.1, c))
 
--- what is closed stays closed
+-- a closed thread stays closed after one more step
 stays : (t : ℕ) (r : Option StepRefused) (step : Step) (before : List Step) → is_closed t before ≡ true
     → is_closed t (cond (is_none r) (step ∷ before) before) ≡ true
 stays t None step before h = or_right (is_close t step) (is_closed t before) h
@@ -95,7 +95,7 @@ pub accepted_is : (setting : Setting) (before : List Attempt) (attempt : Attempt
     → accepted setting (attempt ∷ before) ≡ attempt.step ∷ accepted setting before
 accepted_is setting before attempt none = rw none refl
 
--- a step that is refused changes nothing
+-- a refused step changes nothing
 pub refused_is : (setting : Setting) (before : List Attempt) (attempt : Attempt) (r : StepRefused)
     → refusal setting (accepted setting before) attempt ≡ Some r → accepted setting (attempt ∷ before) ≡ accepted setting before
 refused_is setting before attempt r is = rw is refl

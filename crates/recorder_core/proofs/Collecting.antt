@@ -27,7 +27,7 @@ use Rattle.recorder_core.proofs.Totals.{tickets_limited}
 abbrev pub tickets_of : Setting → List Step → ℕ → List ℕ
 tickets_of setting steps t = map ticket_of (events setting t steps)
 
--- the tickets of all events are those taken
+-- the tickets of all events are the tickets taken
 abbrev pub TicketsAre : Setting → List Step → Type 0
 TicketsAre setting steps = ((t : ℕ) → CountedAndRecorded setting t steps)
     × IsPermutation (range_with_len 0 (tickets steps)) (blocks (tickets_of setting steps) setting.threads)
@@ -75,13 +75,13 @@ tickets_are setting schedule = after_each setting (TicketsAre setting)
 
 -- ---- a done schedule
 
--- the list at a place of lists that are made by number
+-- the element at a place of a list made by number
 pub list_at : {X : Type 0} (f : ℕ → X) (n t : ℕ) (x : X) → slice_get (map f (range_with_len 0 n)) t ≡ Some x → (t < n) × (x ≡ f t)
 list_at f n t x at =
     let within : t < n = omega (arith, slice_get_within (map f (range_with_len 0 n)) t x at, length-map-range_with_len f 0 n) in
     (within, sym (get_or_from_slice_get (map f (range_with_len 0 n)) t x x at) ∙ get_or-map-range_with_len f 0 n t t x within (omega arith))
 
--- what becomes of blocks is blocks of what becomes of each
+-- mapping blocks maps each of them
 pub map_blocks : {X Y : Type 0} (h : X → Y) (f : ℕ → List X) (n : ℕ) → map h (blocks f n) ≡ blocks (λ t. map h (f t)) n
 map_blocks h f zero = refl
 map_blocks {X} {Y} h f (suc n) = map-append h (blocks f n) (f n) ∙ ap (λ (l : List Y). l ++ map h (f n)) (map_blocks h f n)

@@ -10,7 +10,7 @@ use Rattle.recorder_core.specs.Setting.{Setting}
 use Rattle.recorder_core.specs.Schedule.{Attempt, refusal, accepted, asks, answers, returns, pushes, drained, events, with_last, answered, thread_of}
 use Rattle.recorder_core.proofs.Runs.{same_number, after_each, may_ask, may_push, may_effect, may_say, may_return}
 
--- how the counts of one thread go together
+-- relations between the counts of one thread
 pub record AreCounts (ring asked answered returned pushed drained_ happened : ℕ) : Type 0 where
   pub events_are : happened ≡ asked + returned
   pub pushed_below : pushed ≤ asked + returned
@@ -26,7 +26,7 @@ abbrev pub Counted : Setting → ℕ → List Step → Type 0
 Counted setting t steps = AreCounts setting.ring (asks t steps) (answers t steps) (returns t steps) (pushes t steps) (drained t steps)
     (length (events setting t steps))
 
--- ---- how the counts go on
+-- ---- the counts after one more step
 
 -- the counts before the first step
 pub counts_none : (ring : ℕ) → AreCounts ring 0 0 0 0 0 0
@@ -48,7 +48,7 @@ module _ (ring a n r p d e : ℕ) (k : AreCounts ring a n r p d e) where
   counts_drained : (m : ℕ) → AreCounts ring a n r p (d + min m (p - d)) e
   counts_drained m = search arith
 
--- a list with one element more
+-- the length of a list with one more element
 pub length-with_last : {X : Type 0} (items : List X) (x : X) → length (items ++ x ∷ []) ≡ suc (length items)
 length-with_last items x = omega (arith, length-append items (x ∷ []))
 
@@ -56,7 +56,7 @@ length-with_map : {X Y : Type 0} (items : List Y) (f : X → Y) (o : Option X) �
 length-with_map items f None h = cc
 length-with_map items f (Some x) h = length-with_last items (f x)
 
--- who has answers has a last one
+-- if a thread was answered, it has a last answer
 pub has_answer : (setting : Setting) (t : ℕ) (steps : List Step) → 0 < answers t steps → is_some (answered setting t steps) ≡ true
 has_answer setting t [] h = absurd (omega arith)
 has_answer setting t (AskEnq u ∷ before) h = has_answer setting t before h
@@ -86,7 +86,7 @@ other_counts setting t (Ret u) before ne k = rw (ne_eqb u t ne) k
 other_counts setting t (Drain u m) before ne k = rw (ne_eqb u t ne) k
 other_counts setting t (Close u) before ne k = k
 
--- a step that is not refused keeps them
+-- a step that isn't refused keeps the relations of the counts
 own_counts : (setting : Setting) (step : Step) (starved : Bool) (before : List Step) → Counted setting (thread_of step) before
     → refusal setting before (record { step = step; starved = starved }) ≡ None → Counted setting (thread_of step) (step ∷ before)
 own_counts setting (AskEnq u) starved before k none =
@@ -112,7 +112,7 @@ own_counts setting (Ret u) starved before k none =
 own_counts setting (Drain u m) starved before k none = rw (same_number u) (counts_drained _ _ _ _ _ _ _ k m)
 own_counts setting (Close u) starved before k none = k
 
--- the counts after one step more
+-- the counts after one more step
 pub counts_go_on : (setting : Setting) (t : ℕ) (before : List Step) (attempt : Attempt) → Counted setting t before
     → refusal setting before attempt ≡ None → Counted setting t (attempt.step ∷ before)
 counts_go_on setting t before attempt k none = elim (cases_eq (thread_of attempt.step) t) [
@@ -122,6 +122,6 @@ counts_go_on setting t before attempt k none = elim (cases_eq (thread_of attempt
   | inr other ↦ other_counts setting t attempt.step before other k
 ]
 
--- the counts of a thread go together after every schedule
+-- the counts of a thread are related in this way after every schedule
 pub counted : (setting : Setting) (t : ℕ) (schedule : List Attempt) → Counted setting t (accepted setting schedule)
 counted setting t schedule = after_each setting (Counted setting t) (counts_none setting.ring) (counts_go_on setting t) schedule

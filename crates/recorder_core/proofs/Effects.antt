@@ -13,7 +13,7 @@ use Rattle.recorder_core.specs.Schedule.{request, queue, queue_after, queue_answ
 use Rattle.recorder_core.specs.Replay.{kind_told, effect_kinds}
 use Rattle.recorder_core.proofs.Runs.{same_number}
 
--- one operation more
+-- one more operation is accepted
 pub accept_more : (start : List ℕ) (kinds : List OpKind) (kind : OpKind) (middle after : List ℕ) → accept_all start kinds ≡ Some middle
     → accept middle kind ≡ Some after → accept_all start (kinds ++ kind ∷ []) ≡ Some after
 accept_more start [] kind middle after h g =
@@ -26,7 +26,7 @@ accept_more start (first ∷ kinds) kind middle after h g = onwards (accept star
     onwards None ih i = cc
     onwards (Some next) ih i = ih next i g
 
--- the queue accepts what it answers
+-- the sequential specification accepts the queue's own answer
 accept_answer : (asked : Request) (items : List ℕ) → accept items (kind_told asked (queue_answer asked items)) ≡ Some (queue_after asked items)
 accept_answer (Enqueue value) items = refl
 accept_answer Dequeue [] = refl
@@ -41,7 +41,7 @@ one_effect setting None steps h = h
 one_effect setting (Some asked) steps h = accept_more setting.initial (effect_kinds setting steps) _ (queue setting steps)
     (queue_after asked (queue setting steps)) h (accept_answer asked (queue setting steps))
 
--- the effects are accepted from the initial values on, and leave the queue of the schedule
+-- the effects are accepted from the initial values on, and end with the queue of the schedule
 pub effects_accepted : (setting : Setting) (steps : List Step) → accept_all setting.initial (effect_kinds setting steps) ≡ Some (queue setting steps)
 effects_accepted setting [] = refl
 effects_accepted setting (Effect t ∷ before) = one_effect setting (request t before) before (effects_accepted setting before)

@@ -44,7 +44,8 @@ pub record IsBusy (asked : Option Request) (events : List Event) : Type 0 where
   pub asked_is : asked ≡ Some request
   pub call_is : call.what ≡ call_of request
 
--- the events of t, after this many asks, answers and returns of t and this many tickets, with what it asked and was answered last
+-- the events of t, after this many asks, answers and returns of t and this many tickets, with its last request and
+-- its last answer
 pub record AreEventsOf (t a n r next : ℕ) (asked : Option Request) (told : Option Answer) (events : List Event) : Type 0 where
   pub own : All (λ e. e.thread ≡ t) events
   pub below : All (λ e. e.ticket < next) events
@@ -61,7 +62,7 @@ turns_push [] call answer turns fit = (fit, tt)
 turns_push (e ∷ []) call answer turns fit = absurd turns
 turns_push (e ∷ f ∷ rest) call answer turns fit = (turns.0, turns_push rest call answer turns.1 fit)
 
--- what holds of each answer of an operation's kind holds of each answer that isn't wrong
+-- a property of each answer of an operation's kind holds of each answer that isn't wrong
 pub of_right_answers : (P : Request → Answer → Type 0) → ((v : ℕ) → P (Enqueue v) Taken) → ((v : ℕ) → P (Enqueue v) Not)
     → ((w : ℕ) → P Dequeue (Got w)) → P Dequeue Empty → (asked : Request) (answer : Answer) → is_wrong answer (Some asked) ≡ false → P asked answer
 of_right_answers P taken refused got empty (Enqueue v) Taken right = taken v
@@ -87,7 +88,7 @@ name_of_ask : (kind : Kind) (t n value : ℕ) → call_of (asked_for kind t n) �
 name_of_ask Enq t n value is = cc
 name_of_ask Deq t n value is = cc
 
--- ---- how the events go on
+-- ---- the events after one more step
 
 events_none : (t : ℕ) → AreEventsOf t 0 0 0 0 None None []
 events_none t = record {
@@ -102,13 +103,13 @@ events_none t = record {
 }
 
 module _ (t a n r next : ℕ) (asked : Option Request) (told : Option Answer) (list : List Event) (k : AreEventsOf t a n r next asked told list) where
-  -- the same events, with other tickets drawn and other answers given
+  -- the same events, after other tickets were drawn and other answers given
   same_events : (n' next' : ℕ) (told' : Option Answer) → All (λ e. e.ticket < next') list → (r < n' → Fits asked told')
       → AreEventsOf t a n' r next' asked told' list
   same_events n' next' told' below fits =
       record { own = k.own; below = below; rise = k.rise; named = k.named; idle = k.idle; busy = k.busy; fits = fits; few = k.few }
 
-  -- the others' steps take tickets
+  -- the same events, after steps of other threads took tickets
   events_later : (next' : ℕ) → next ≤ next' → AreEventsOf t a n r next' asked told list
   events_later next' h = same_events n next' told (All-weaker (λ e. e.ticket < next) (λ e. e.ticket < next') (λ e less. omega arith) list k.below) k.fits
 
@@ -191,12 +192,12 @@ other_events setting t (Ret u) before ne k = rw (ne_eqb u t ne) (events_later _ 
 other_events setting t (Drain u n) before ne k = k
 other_events setting t (Close u) before ne k = k
 
--- what the pending operation of a thread asked
+-- the request of the pending operation
 pub asked_last : (setting : Setting) (t : ℕ) (before : List Step) → Recorded setting t before → returns t before < asks t before
     → (q : Request) × (request t before ≡ Some q)
 asked_last setting t before k less = let b = k.busy less in (b.request, b.asked_is)
 
--- what a thread was answered that may return
+-- the answer of a thread that may return
 pub told_last : (setting : Setting) (t : ℕ) (before : List Step) → Recorded setting t before → returns t before < answers t before
     → (a : Answer) × (answered setting t before ≡ Some a)
 told_last setting t before k less = some_told (request t before) (answered setting t before) (k.fits less)
@@ -234,11 +235,11 @@ own_events setting (Ret u) starved before c k none =
 own_events setting (Drain u n) starved before c k none = k
 own_events setting (Close u) starved before c k none = k
 
--- both together
+-- the counts and the events of a thread
 abbrev pub CountedAndRecorded : Setting → ℕ → List Step → Type 0
 CountedAndRecorded setting t steps = Counted setting t steps × Recorded setting t steps
 
--- both after one step more
+-- the counts and the events after one more step
 pub recorded_goes_on : (setting : Setting) (t : ℕ) (before : List Step) (attempt : Attempt) → CountedAndRecorded setting t before
     → refusal setting before attempt ≡ None → CountedAndRecorded setting t (attempt.step ∷ before)
 recorded_goes_on setting t before attempt k none = (

@@ -36,7 +36,7 @@ done_from setting old schedule left h = λ t within.
     let r : length (thread_after setting t steps).ring ≡ in_ring t steps = seen_ring setting t steps k in
     (p.0, omega (arith, e, r, k.drained_below))
 
--- of a done schedule the machine's threads are done
+-- a machine of a done schedule has threads that are done
 pub done_to : (setting : Setting) (old : MachineView) (schedule : List Attempt) → IsAfter setting old schedule → IsDone setting schedule
     → list_all is_thread_done old.threads ≡ true
 done_to setting old schedule left done =

@@ -28,11 +28,11 @@ use Rattle.history_merge.proofs.Turns.{answer_is_return}
 use Rattle.std.proofs.lemmas.List.Kept.{AllPairs-filter}
 use Rattle.history_merge.proofs.Lists.{kept, mapped_to, passes_filter, passed_filter, pairs_append}
 
--- the number of a member's place, and its place
+-- the place of a member
 pub place_in : {X : Type 0} (xs : List X) (x : X) → Contains xs x → (k : ℕ) × (slice_get xs k ≡ Some x)
 place_in xs x among = (among.0, slice_get_read xs (length xs) among.0 x refl among.1 (sym among.2))
 
--- if calls and returns take turns, calls stand at even places
+-- if calls and returns take turns, calls are at even places
 pub call_at_even : (events : List Event) (k : ℕ) (e : Event) → TakesTurns events → slice_get events k ≡ Some e → is_call e.what ≡ true → (n : ℕ) × (k ≡ 2 * n)
 call_at_even [] k e turns at calls = cc
 call_at_even (call ∷ []) k e turns at calls = absurd turns
@@ -50,7 +50,7 @@ call_of_value _ v e = cc
 
 -- ---- lists that fit together
 
--- recorded lists, of which there may be none
+-- recorded lists; there may be none
 pub record AreFit (lists : List (List Event)) : Type 0 where
   pub not_too_many : length lists ≤ MAX_THREADS
   pub each : (t : ℕ) (events : List Event) → slice_get lists t ≡ Some events → IsListOf t events
@@ -61,7 +61,7 @@ pub record AreFit (lists : List (List Event)) : Type 0 where
 abbrev pub ticket_of : Event → ℕ
 ticket_of e = e.ticket
 
--- no two events of fitting lists have one ticket
+-- no two events of fitting lists have the same ticket
 pub once_joined : (lists : List (List Event)) → AreFit lists → Once ticket_of (flat_map (λ list. list) lists)
 once_joined lists fit =
     let all = flat_map (λ (list : List Event). list) lists in
@@ -80,7 +80,7 @@ module _ (lists : List (List Event)) (merged : List Event) (fit : AreFit lists) 
   joined : (e : Event) → Contains merged e → Contains (flat_map (λ list. list) lists) e
   joined e among = Contains-permutation merged (flat_map (λ list. list) lists) e (IsPermutation-sym _ _ is.holds_each_once) among
 
-  -- and stands in the list of its thread
+  -- an event of the merged list is in the list of its thread
   pub owned : (e : Event) → Contains merged e → (list : List Event) × (slice_get lists e.thread ≡ Some list) × Contains list e
   owned e among =
       let m = joined_contains lists e (joined e among) in
@@ -124,7 +124,7 @@ module _ (lists : List (List Event)) (merged : List Event) (fit : AreFit lists) 
       cc) in
       rw none tt
 
-  -- where an enqueue is called, and with which name
+  -- the place of an enqueue's call, and the name of its value
   named : (e : Event) (v : ℕ) → Contains merged e → called_value e.what ≡ Some v
       → (list : List Event) × (n : ℕ) × (slice_get lists e.thread ≡ Some list) × (slice_get list (2 * n) ≡ Some e) × (v ≡ value_name e.thread n) × (n < 2 ^ 32)
   named e v among called =
@@ -160,14 +160,14 @@ module _ (lists : List (List Event)) (merged : List Event) (fit : AreFit lists) 
     values_are_distinct = pairs_filter_map Below (λ v w. v ≢ w) (λ e. called_value e.what) merged distinct rises;
   }
 
-  -- the names of the threads' values lie below those of initial values
+  -- the names of the threads' values are below those of initial values
   low_name : (v : ℕ) → Contains (called_values merged) v → v < LEAST_INITIAL_NAME
   low_name v called =
       let m = kept (λ (e : Event). called_value e.what) merged v called in
       let n = named m.0 v m.1 m.2 in
       omega (arith, low_thread m.0 m.1, n.4, n.5)
 
-  -- and to one from initial values whose names no thread gives
+  -- lists that fit merge to a complete history from initial values whose names no thread gives
   pub merged_is_complete_from : (initial : List ℕ) → AreInitialNames initial → IsCompleteFrom initial merged
   merged_is_complete_from initial names = record {
     complete = merged_is_complete;
@@ -175,7 +175,7 @@ module _ (lists : List (List Event)) (merged : List Event) (fit : AreFit lists) 
         (λ v w first called same. omega (arith, All-contains (λ x. LEAST_INITIAL_NAME ≤ x) initial v names.above_names first, low_name w called, same));
   }
 
--- what is merged of lists that fit is few
+-- the merged list of lists that fit has few events
 pub merged_is_few : (lists : List (List Event)) (merged : List Event) → AreFit lists → IsMerged lists merged → length merged ≤ MAX_EVENTS
 merged_is_few lists merged fit is = omega (arith, fit.not_too_long, length_permutation _ _ is.holds_each_once)
 

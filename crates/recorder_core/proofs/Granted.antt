@@ -1,4 +1,4 @@
--- Steps that are accepted one after the other.
+-- Steps that are accepted one after another.
 use Rattle.std.proofs.Common.{◌≡◌, ℕ, ◌+◌, ◌<◌, ◌≤◌, false, ◌||◌, List, ◌∷◌, ◌++◌, map, None, refl, ◌∙◌, ap, subst, arith, leb}
 use Rattle.std.specs.Prelude.{All}
 use Rattle.std.proofs.lemmas.Bool.{ne_eqb, lt-leb, le-ltb}
@@ -17,7 +17,7 @@ use Rattle.recorder_core.proofs.Closing.{accepted_is}
 use Rattle.recorder_core.proofs.Events.{CountedAndRecorded, recorded}
 use Rattle.recorder_core.proofs.Totals.{Added, added}
 
--- ---- what may be done is not refused
+-- ---- steps that may come are not refused
 
 -- an ask that may come is accepted
 pub ask_granted : (setting : Setting) (u : ℕ) (before : List Step) (kind : Kind) → MayAsk setting u before
@@ -67,28 +67,29 @@ close_granted setting u before m = rw (lt-leb _ _ m.known, m.open_still, le-ltb 
 abbrev pub granted_attempt : Step → Attempt
 granted_attempt step = record { step = step; starved = false }
 
--- each of these steps is accepted, if no growth is refused
+-- each of these steps is accepted, if memory doesn't run out
 abbrev pub AllGranted : Setting → List Step → Type 0
 AllGranted setting steps = accepted setting (map granted_attempt steps) ≡ steps
 
--- one step more is accepted
+-- one more step is accepted
 pub one_granted : (setting : Setting) (step : Step) (before : List Step) → AllGranted setting before
     → refusal setting before (granted_attempt step) ≡ None → AllGranted setting (step ∷ before)
 one_granted setting step before all none =
     let none' : refusal setting (accepted setting (map granted_attempt before)) (granted_attempt step) ≡ None = rw all none in
     accepted_is setting (map granted_attempt before) (granted_attempt step) none' ∙ ap (λ (l : List Step). step ∷ l) all
 
--- what accepted steps leave
+-- the counts and events of a thread after accepted steps
 pub granted_recorded : (setting : Setting) (t : ℕ) (steps : List Step) → AllGranted setting steps → CountedAndRecorded setting t steps
 granted_recorded setting t steps all = subst (CountedAndRecorded setting t) all (recorded setting t (map granted_attempt steps))
 
--- what accepted steps leave in all
+-- the counts of all threads after accepted steps
 pub granted_added : (setting : Setting) (steps : List Step) → AllGranted setting steps → Added setting steps
 granted_added setting steps all = subst (Added setting) all (added setting (map granted_attempt steps))
 
 -- ---- a thread whose events so far are collected
 
--- of the list of t the first events are recorded, and collected but for this many that are held; the rest has this ticket or later ones
+-- the first events of t's list are recorded, and collected but for those that are held; the others have this ticket
+-- or later ones
 pub record IsOnTurn (setting : Setting) (n t held : ℕ) (list : List Event) (steps : List Step) : Type 0 where
   pub still_open : is_closed t steps ≡ false
   pub pushed : pushes t steps + held ≡ asks t steps + returns t steps
@@ -98,7 +99,7 @@ pub record IsOnTurn (setting : Setting) (n t held : ℕ) (list : List Event) (st
   pub list_is : list ≡ events setting t steps ++ rest
   pub later : All (λ e. n ≤ e.ticket) rest
 
--- a thread stays on turn through steps that leave what it did
+-- a thread stays on turn through steps that don't change its counts and events
 on_turn_still : (setting : Setting) (n t held : ℕ) (list : List Event) (before after : List Step) → is_closed t after ≡ is_closed t before
     → pushes t after ≡ pushes t before → asks t after ≡ asks t before → returns t after ≡ returns t before → drained t after ≡ drained t before
     → answers t after ≡ answers t before → events setting t after ≡ events setting t before
@@ -130,13 +131,13 @@ collected_own setting n u list before h = record {
   later = h.later;
 }
 
--- so nothing of another thread changes
+-- nothing of another thread changes
 pub collected_other : (setting : Setting) (n t u : ℕ) (list : List Event) (before : List Step) → (u ≡ t → ⊥) → IsOnTurn setting n t 0 list before
     → IsOnTurn setting n t 0 list (collect_one u before)
 collected_other setting n t u list before other k =
     on_turn_still _ _ _ _ _ before _ refl (rw (ne_eqb u t other) refl) refl refl (rw (ne_eqb u t other) refl) refl refl k
 
--- these two steps are accepted
+-- the push and the drain are accepted
 pub collected_granted : (setting : Setting) (n u : ℕ) (list : List Event) (before : List Step) → u < setting.threads → 1 ≤ setting.ring
     → IsOnTurn setting n u 1 list before → AllGranted setting before → AllGranted setting (collect_one u before)
 collected_granted setting n u list before known room h all =

@@ -1,4 +1,4 @@
--- The effects of an honest schedule: when each was taken, by which operation, and what it did.
+-- The effects of an honest schedule: when each was taken, by which operation, and of which kind.
 use Rattle.std.proofs.Common.{◌≡◌, ℕ, suc, ◌+◌, ◌*◌, ◌<◌, ◌≤◌, Bool, true, false, List, [], ◌∷◌, ◌++◌, length}
 use Rattle.std.proofs.Common.{map, Option, Some, None, refl, sym}
 use Rattle.std.proofs.Common.{◌∙◌, ap, subst, inl, inr, arith, eqb, cond, length-append}
@@ -32,7 +32,7 @@ use Rattle.recorder_core.proofs.Starting.{slice_get_front}
 use Rattle.recorder_core.proofs.Threads.{slice_get_at}
 use Rattle.history_merge.proofs.Lists.{with_one_more}
 
--- an effect: the operation of this thread and number took it when this many tickets were drawn, and did this
+-- an effect of the operation with this thread and number, of this kind, taken when this many tickets were drawn
 pub record TakenEffect : Type 0 where
   pub thread : ℕ
   pub number : ℕ
@@ -62,7 +62,8 @@ taken setting (_ ∷ before) = taken setting before
 abbrev pub without_says : List Step → Bool
 without_says steps = list_all (λ step. not (is_say step)) steps
 
--- what an effect has to do with the events of its thread, after this many tickets, answers and returns, if this was answered last
+-- the relation of an effect to the events of its thread, after this many tickets, answers and returns, with this last
+-- answer
 pub record IsTaken (next n r : ℕ) (told : Option Answer) (list : List Event) (number time : ℕ) (kind : OpKind) : Type 0 where
   pub in_time : time ≤ next
   pub was_answered : number < n
@@ -73,7 +74,7 @@ pub record IsTaken (next n r : ℕ) (told : Option Answer) (list : List Event) (
   pub waiting : r ≤ number → (a : Answer) × (told ≡ Some a) × (kind_of call.what (return_what a) ≡ Some kind)
 
 module _ (next n r : ℕ) (told : Option Answer) (list : List Event) (number time : ℕ) (kind : OpKind) (k : IsTaken next n r told list number time kind) where
-  -- after more steps, by what is known then of its call and its return
+  -- the relation after more steps, by what is known of the call and the return then
   taken_then : (next' n' r' : ℕ) (told' : Option Answer) (list' : List Event) → next ≤ next' → n ≤ n' → slice_get list' (2 * number) ≡ Some k.call
       → ((ret : Event) → slice_get list' (2 * number + 1) ≡ Some ret → (time ≤ ret.ticket) × (kind_of k.call.what ret.what ≡ Some kind))
       → (r' ≤ number → (a : Answer) × (told' ≡ Some a) × (kind_of k.call.what (return_what a) ≡ Some kind))
@@ -98,7 +99,7 @@ module _ (next n r : ℕ) (told : Option Answer) (list : List Event) (number tim
   abbrev Returned : Event → Type 0
   Returned ret = (time ≤ ret.ticket) × (kind_of k.call.what ret.what ≡ Some kind)
 
-  -- with one event more its return is one of those before, or this one
+  -- with one more event, the operation's return is one of those before, or this one
   still_returned : (e : Event) → (2 * number + 1 ≡ length list → Returned e) → (ret : Event)
       → slice_get (list ++ e ∷ []) (2 * number + 1) ≡ Some ret → Returned ret
   still_returned e now ret at = elim (with_one_more list e ret (2 * number + 1) at) [
@@ -127,7 +128,7 @@ module _ (next n r : ℕ) (told : Option Answer) (list : List Event) (number tim
   taken_answered told' few =
       taken_then next (suc n) r told' list (omega arith) (omega arith) k.called k.returned (λ none. absurd (omega (arith, k.was_answered)))
 
--- ---- an effect that is taken now
+-- ---- an effect that is taken by this step
 
 told_kind : (asked : Request) (answer : Answer) → is_wrong answer (Some asked) ≡ false
     → kind_of (call_of asked) (return_what answer) ≡ Some (kind_told asked answer)
@@ -174,7 +175,7 @@ abbrev pub IsTakenAt : Setting → List Step → TakenEffect → Type 0
 IsTakenAt setting steps x = (x.thread < setting.threads) × IsTaken (tickets steps) (answers x.thread steps) (returns x.thread steps)
     (answered setting x.thread steps) (events setting x.thread steps) x.number x.time x.kind
 
--- what is taken stays so with an ask of either kind
+-- a taken effect stays related after an ask of either kind
 taken_asking : (setting : Setting) (u : ℕ) (before : List Step) (x : TakenEffect) (what : What) → ((t : ℕ) → CountedAndRecorded setting t before)
     → MayAsk setting u before → IsTakenAt setting before x
     → (x.thread < setting.threads) × IsTaken (suc (tickets before)) (answers x.thread before) (returns x.thread before) (answered setting x.thread before)
@@ -189,7 +190,7 @@ taken_asking setting u before x what all may k = elim (cases_eq u x.thread) [
   | inr other ↦ rw (ne_eqb u x.thread other) (k.0, taken_later _ _ _ _ _ _ _ _ k.1 (suc (tickets before)) (omega arith))
 ]
 
--- what is taken stays so with each honest step
+-- a taken effect stays related after each honest step
 taken_on : (setting : Setting) (step : Step) (starved : Bool) (before : List Step) (x : TakenEffect) → ((t : ℕ) → CountedAndRecorded setting t before)
     → without_says (step ∷ before) ≡ true → refusal setting before (record { step = step; starved = starved }) ≡ None → IsTakenAt setting before x
     → IsTakenAt setting (step ∷ before) x
@@ -220,7 +221,7 @@ taken_on setting (Push u) starved before x all honest none k = k
 taken_on setting (Drain u n) starved before x all honest none k = k
 taken_on setting (Close u) starved before x all honest none k = k
 
--- the effects in the order of their times, with what the machine's queue did
+-- the effects in the order of their times, and their kinds in the machine's queue
 pub record AreTaken (setting : Setting) (steps : List Step) : Type 0 where
   pub each : All (IsTakenAt setting steps) (taken setting steps)
   pub in_order : AllPairs (λ x y. x.time ≤ y.time) (taken setting steps)

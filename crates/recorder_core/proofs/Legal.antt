@@ -43,7 +43,7 @@ filter_map-map : {X Y Z : Type 0} (g : Y → Option Z) (f : X → Y) (xs : List 
 filter_map-map g f [] = refl
 filter_map-map g f (x ∷ xs) = ap (cons_option (g (f x))) (filter_map-map g f xs)
 
--- the first k operations of t, by what a function gives for them
+-- the operations of t with the first k numbers, by a function
 abbrev own : (ℕ × ℕ → Option Operation) → ℕ → ℕ → List Operation
 own g t k = filter_map g (map (λ n. (t, n)) (range_with_len 0 k))
 
@@ -78,7 +78,7 @@ effects_by_thread : (setting : Setting) (g : ℕ × ℕ → Option Operation) (s
 effects_by_thread setting g schedule = after_each setting (ByThread setting g) (λ honest. same_permutation _ _ (no_blocks setting.threads))
     (λ before attempt k none. by_thread_on setting g attempt.step attempt.starved before k none) schedule
 
--- ---- what the effects did
+-- ---- the operations of the effects
 
 kinds_kept : (h : TakenEffect → Option Operation) (xs : List TakenEffect)
     → ((x : TakenEffect) → Contains xs x → (o : Operation) × (h x ≡ Some o) × (o.kind ≡ x.kind))
@@ -117,7 +117,7 @@ module _ (setting : Setting) (schedule : List Attempt) (merged : List Event) (fe
   abbrev steps : List Step
   steps = accepted setting schedule
 
-  -- what an effect did
+  -- the operation of an effect
   abbrev did : TakenEffect → Option Operation
   did x = operation_at setting steps (x.thread, x.number)
 
@@ -127,7 +127,7 @@ module _ (setting : Setting) (schedule : List Attempt) (merged : List Event) (fe
       let same = all_returned setting schedule few done t within in
       (omega (arith, c.returned_below, c.answered_below, same), omega (arith, c.events_are, same))
 
-  -- each effect is that of an operation whose call is before it and whose return is not
+  -- each effect has an operation, which is called before it and doesn't return before it
   pub effect_did : (x : TakenEffect) → Contains (taken setting steps) x
       → (o : Operation) × (did x ≡ Some o) × (o.kind ≡ x.kind) × (o.call < x.time) × (x.time ≤ o.ret)
   effect_did x among =
@@ -198,6 +198,6 @@ module _ (setting : Setting) (schedule : List Attempt) (merged : List Event) (fe
       let c = IsPermutation-sym _ _ (effects_by_thread setting (operation_at setting steps) schedule honest) in
       IsPermutation-trans _ _ _ a (IsPermutation-trans _ _ _ b c)
 
-  -- the order of the effects is a legal one of the collected history
+  -- the order of the effects is a linearization of the collected history
   pub effects_order_is_legal : IsLegalOrder setting.initial (operations_of merged) (effects_order setting steps)
   effects_order_is_legal = record { holds_each_once = each_once; extends_precedence = in_precedence; is_accepted = accepted_in_turn }

@@ -1,13 +1,11 @@
--- The way of the argument, from steps to what is collected:
--- Members, Blocks, Naming: lists by what they contain, lists made of one block for each thread, and values that are distinct.
--- Steps, Starting, Threads: what each step does to what a machine holds.
--- Runs, Granted: induction over the accepted steps of a schedule.
--- Counts, Totals, Events, Closing, Finished: what any schedule leaves: counts, events in order, closed threads, a machine that is done.
--- Turns, Fitting: the recorded lists merge to a complete history.
--- Collecting: a done schedule's collected lists fit together and hold each thread's events once.
--- Precedence, Ticketed, Operating: operations precede one another as their steps stand, so as they are ticketed.
--- Effects, Honest, Legal: the effects of an honest schedule that is done are a linearization.
--- Replaying, Replayed: recorded lists are collected by some schedule.
+-- How the argument goes, from steps to the collected lists: Members, Blocks, Naming: elements of lists, lists made of
+-- one block for each thread, and values that are distinct. Steps, Starting, Threads: the effect of each step on the
+-- state of a machine. Runs, Granted: induction over the accepted steps of a schedule. Counts, Totals, Events,
+-- Closing, Finished: the state after any schedule: counts, events in order, closed threads, a machine that is done.
+-- Turns, Fitting: the recorded lists merge to a complete history. Collecting: the lists that a done schedule collects
+-- fit together and have each thread's events once. Precedence, Ticketed, Operating: the order of operations is that
+-- of their steps, and of their tickets. Effects, Honest, Legal: the effects of an honest schedule that is done are a
+-- linearization. Replaying, Replayed: recorded lists are collected by some schedule.
 pub mod Runs
 pub mod Counts
 pub mod Threads

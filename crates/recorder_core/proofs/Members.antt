@@ -1,4 +1,4 @@
--- Lists by what they contain: numbers that stand once in a list, and lists whose tickets rise.
+-- Elements of lists: numbers without repetition, and lists whose tickets rise.
 use Rattle.std.proofs.lemmas.Bool.{cases_eq}
 use Rattle.std.proofs.Common.{◌≡◌, ℕ, zero, suc, ◌+◌, ◌<◌, List, [], ◌∷◌, get_or, Option, Some, None, refl, sym}
 use Rattle.std.proofs.Common.{◌∙◌, ap, subst, inl, inr, arith, ◌≤◌}
@@ -19,7 +19,7 @@ contains_joined [] t list x at among = cc
 contains_joined (l ∷ lists) zero list x at among = let same : l ≡ list = cc in Contains-append_left l (flat_map (λ l. l) lists) x (rw same among)
 contains_joined (l ∷ lists) (suc t) list x at among = Contains-append_right l (flat_map (λ l. l) lists) x (contains_joined lists t list x at among)
 
--- and the other way round
+-- a member of all lists joined is one of a list
 pub joined_contains : {X : Type 0} (lists : List (List X)) (x : X) → Contains (flat_map (λ l. l) lists) x
     → (t : ℕ) × (list : List X) × (slice_get lists t ≡ Some list) × Contains list x
 joined_contains [] x among = absurd (not_in_none x among)
@@ -30,7 +30,7 @@ joined_contains (l ∷ lists) x among = elim (Contains-append_cases l (flat_map 
 
 -- ---- pairs
 
--- one element more in front
+-- one more element in front
 pub pairs_cons : {X : Type 0} (R : X → X → Type 0) (x : X) (xs : List X) → ((y : X) → Contains xs y → R x y) → AllPairs R xs → AllPairs R (x ∷ xs)
 pairs_cons R x xs first more i zero d below within = absurd (omega arith)
 pairs_cons R x xs first more zero (suc j) d below within = first (get_or xs j d) (Contains-get_or xs j d (omega arith))
@@ -42,7 +42,7 @@ pairs_cons R x xs first more (suc i) (suc j) d below within = more i j d (omega 
 abbrev pub Below : Event → Event → Type 0
 Below e f = e.ticket < f.ticket
 
--- two of them that contain the same events are one
+-- lists with rising tickets and the same events are equal
 pub rising_unique : (xs ys : List Event) → TicketsRise xs → TicketsRise ys → ((e : Event) → Contains xs e → Contains ys e)
     → ((e : Event) → Contains ys e → Contains xs e) → xs ≡ ys
 rising_unique [] [] up up' there back = refl
@@ -74,7 +74,7 @@ rising_unique (x ∷ xs) (y ∷ ys) up up' there back =
       | inr later ↦ later
     ]
 
--- ---- what a function keeps of a list
+-- ---- filtered and mapped lists
 
 -- a number of a range is below its end
 pub contains_range : (a n v : ℕ) → Contains (range_with_len a n) v → v < a + n
@@ -84,12 +84,12 @@ contains_range a (suc n) v among = elim (contains_cons a (range_with_len (a + 1)
   | inr later ↦ omega (arith, contains_range (a + 1) n v later)
 ]
 
--- a list in which nothing stands is empty
+-- a list without elements is empty
 pub nil_from_none : {X : Type 0} (xs : List X) → ((x : X) → Contains xs x → ⊥) → xs ≡ []
 nil_from_none [] none = refl
 nil_from_none (x ∷ xs) none = absurd (none x (contains_head x xs))
 
--- what holds of each two items holds, in another form, of what is kept of them
+-- a relation of all pairs of items holds, in another form, of what `filter_map` gives
 pub pairs_filter_map : {X Y : Type 0} (R : X → X → Type 0) (S : Y → Y → Type 0) (h : X → Option Y) (xs : List X)
     → ((a b : X) (c d : Y) → Contains xs a → Contains xs b → R a b → h a ≡ Some c → h b ≡ Some d → S c d) → AllPairs R xs → AllPairs S (filter_map h xs)
 pairs_filter_map R S h [] turn pairs = λ i j d below within. absurd (omega arith)
@@ -104,7 +104,7 @@ pairs_filter_map {X} {Y} R S h (x ∷ xs) turn pairs =
         let m = kept h xs y among in
         turn x m.0 w y (contains_head x xs) (one_deeper x xs m.0 m.1) (pairs_first R x xs m.0 pairs m.1) is m.2) more
 
--- a number between a range's ends stands in it
+-- a number between the ends of a range is in it
 pub in_range : (a n v : ℕ) → a ≤ v → v < a + n → Contains (range_with_len a n) v
 in_range a zero v above below = absurd (omega arith)
 in_range a (suc n) v above below = elim (cases_eq a v) [

@@ -1,4 +1,4 @@
--- Values of which no two are the same.
+-- Values that are distinct.
 use Rattle.std.proofs.Common.{◌≡◌, ◌≢◌, ℕ, ◌+◌, ◌<◌, inl, inr, Bool, true, false, ◌||◌, cond, List, [], ◌∷◌, ◌++◌}
 use Rattle.std.proofs.Common.{length, get_or, take, refl, sym, ◌∙◌, ap}
 use Rattle.std.proofs.Common.{subst, nat_eq, add-one, arith}
@@ -39,7 +39,7 @@ among_found (x ∷ xs) v among = elim (contains_cons x xs v among) [
     by_rest true e = refl
     by_rest false e = e
 
--- a value that stands before itself stands twice
+-- if a value is among those before it, the values aren't distinct
 pub stands_twice : (xs : List ℕ) (i d : ℕ) → i < length xs → is_among (take i xs) (get_or xs i d) ≡ true → AllPairs (λ v w. v ≢ w) xs → ⊥
 stands_twice xs i d within found apart =
     let v = get_or xs i d in
@@ -47,14 +47,14 @@ stands_twice xs i d within found apart =
     let earlier : a.0 < i = omega (arith, a.1, length-take-le i xs (omega arith)) in
     apart a.0 i v earlier within (sym (get_or-take i xs a.0 v earlier) ∙ a.2 ∙ get_or_default xs i d v within)
 
--- what is among one value more
+-- membership with one more value
 among_more : (xs : List ℕ) (i d v : ℕ) → i < length xs → is_among (take (i + 1) xs) v ≡ (is_among (take i xs) v || nat_eq (get_or xs i d) v)
 among_more xs i d v within =
     ap (λ (n : ℕ). is_among (take n xs) v) (add-one i) ∙ ap (λ (l : List ℕ). is_among l v) (take-suc xs i d within)
     ∙ list_any-append (λ w. nat_eq w v) (take i xs) (get_or xs i d ∷ [])
     ∙ ap (λ (b : Bool). is_among (take i xs) v || b) (or-false (nat_eq (get_or xs i d) v))
 
--- whether a value is in a set of the values so far, and then in that with one value more
+-- membership in a set of the values so far, and with one more value
 pub noted : (xs : List ℕ) (i d v : ℕ) (before now : Bool) → i < length xs → before ≡ is_among (take i xs) v
     → now ≡ cond (is_eq (nat_cmp (get_or xs i d) v)) true before → now ≡ is_among (take (i + 1) xs) v
 noted xs i d v before now within was is =
@@ -66,7 +66,7 @@ noted xs i d v before now within was is =
     or_flipped true true = refl
     or_flipped true false = refl
 
--- a value that is none of those before it
+-- one more value, which isn't among those before it
 pub one_more_apart : (xs : List ℕ) (i d : ℕ) → i < length xs → is_among (take i xs) (get_or xs i d) ≡ false → AllPairs (λ v w. v ≢ w) (take i xs)
     → AllPairs (λ v w. v ≢ w) (take (i + 1) xs)
 one_more_apart xs i d within unseen apart =

@@ -18,7 +18,7 @@ use Rattle.history_merge.proofs.Turns.{answer_is_return}
 use Rattle.history_merge.proofs.Formed.{no_operation}
 use Rattle.history_merge.proofs.Lists.{contains_head, one_deeper, option_cons}
 
--- the first that passes is among those that pass
+-- the first element that passes is among those that pass
 find_filter : {X : Type 0} (p : X → Bool) (xs : List X) → find p (filter p xs) ≡ find p xs
 find_filter p [] = refl
 find_filter {X} p (x ∷ xs) = by_head (p x) refl (find_filter p xs)

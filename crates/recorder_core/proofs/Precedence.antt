@@ -1,4 +1,4 @@
--- Where the step of an event stands in a schedule.
+-- The place of an event's step in a schedule.
 use Rattle.std.proofs.Common.{◌≡◌, ℕ, suc, ◌<◌, ◌≤◌, Bool, true, false, cond, List, [], ◌∷◌, ◌++◌, length, take, drop, Option, Some, None, refl, sym}
 use Rattle.std.proofs.Common.{ap, ◌∙◌, subst, inl, inr, ◌⊎◌, arith, eqb, Contains}
 use Rattle.std.proofs.lemmas.List.{take-append-drop}
@@ -15,7 +15,7 @@ use Rattle.recorder_core.specs.Schedule.{Attempt, refusal, accepted, events, eve
 use Rattle.recorder_core.specs.Laws.{Gives, StandsBefore, collected_in}
 use Rattle.recorder_core.proofs.Closing.{accepted_is}
 
--- where the step of an event stands
+-- the place of an event's step
 pub record Place (setting : Setting) (schedule : List Attempt) (event : Event) : Type 0 where
   pub later : List Attempt
   pub attempt : Attempt
@@ -43,7 +43,7 @@ of_if_map true g None y f z h is = cc
 of_if_map true g (Some x) y f z h is = ap f (sym (same_Some (g x) y is)) ∙ h x
 of_if_map false g o y f z h is = cc
 
--- the event of t that a step gives is of t, takes the next ticket, and is given by a ticket step
+-- the event of t that a step gives is of thread t, takes the next ticket, and comes from a ticket step
 pub event_is : (setting : Setting) (t : ℕ) (step : Step) (before : List Step) (event : Event) → event_of setting t step before ≡ Some event
     → (event.thread ≡ t) × (event.ticket ≡ tickets before) × (is_ticket_step step ≡ true)
 event_is setting t (AskEnq u) before event is = (
@@ -146,7 +146,7 @@ two_places [] (y ∷ ys) a b p q h = inr (inr (ys, ap (drop 1) h))
 two_places (x ∷ xs) [] a b p q h = inr (inl (xs, sym (ap (drop 1) h)))
 two_places (x ∷ xs) (y ∷ ys) a b p q h = two_places xs ys a b p q (ap (drop 1) h)
 
--- the event with the lower ticket stands before
+-- the event with the lower ticket comes first
 pub lower_stands_before : (setting : Setting) (schedule : List Attempt) (first second : Event) → Place setting schedule first
     → Place setting schedule second → first.ticket < second.ticket → StandsBefore setting schedule first second
 lower_stands_before setting schedule first second x y less =
@@ -172,12 +172,12 @@ lower_stands_before setting schedule first second x y less =
           absurd (omega (arith, more, less))
     ]
 
--- the event that stands before has the lower ticket
+-- the event that comes first has the lower ticket
 pub stands_before_is_lower : (setting : Setting) (schedule : List Attempt) (first second : Event) → StandsBefore setting schedule first second
     → first.ticket < second.ticket
 stands_before_is_lower setting schedule first second s = later_is_higher setting s.between s.before s.one s.other first second s.gives_first s.gives_second
 
--- what is collected of a thread is an event of it
+-- a collected event of a thread is an event of it
 pub collected_is_event : (setting : Setting) (schedule : List Attempt) (t : ℕ) (event : Event) → Contains (collected_in setting schedule t) event
     → Contains (events setting t (accepted setting schedule)) event
 collected_is_event setting schedule t event h =

@@ -1,4 +1,4 @@
--- The end of a replay: every thread is closed, and every list collected.
+-- The end of a replay: every thread is closed, and every list is collected.
 use Rattle.std.proofs.Common.{◌≡◌, ℕ, zero, suc, ◌+◌, ◌<◌, ◌≤◌, Bool, true, ◌||◌, ◌&&◌, List, [], ◌∷◌, ◌++◌}
 use Rattle.std.proofs.Common.{length, get_or, map, Some, refl, sym}
 use Rattle.std.proofs.Common.{◌∙◌, ap, subst, inl, inr, arith, eqb, ltb}
@@ -136,7 +136,7 @@ module _ (lists : List (List Event)) (fit : AreFit lists) (ring : ℕ) (initial 
   silent_attempts [] = refl
   silent_attempts (step ∷ steps) = ap (λ (b : Bool). not (is_effect step) && b) (silent_attempts steps)
 
-  -- lists that fit are what a schedule collects
+  -- there is a schedule that collects lists that fit
   pub lists_replay : Replays ring initial lists
   lists_replay =
       let end = closed (length lists) (omega arith) in

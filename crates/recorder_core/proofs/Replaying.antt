@@ -1,5 +1,5 @@
--- Recorded lists are collected by some schedule: it takes the events by ticket, an ask, or a say and a return, and then a push and
--- a drain of one.
+-- Recorded lists are collected by some schedule. It takes the events by ticket: an ask, or a say and a return, and
+-- then a push and a drain of one.
 use Rattle.std.proofs.Common.{◌≡◌, ℕ, zero, suc, ◌+◌, ◌*◌, ◌<◌, ◌≤◌, Bool, true, false, List, [], ◌∷◌}
 use Rattle.std.proofs.Common.{◌++◌, length, get_or, map, Some, refl, sym}
 use Rattle.std.proofs.Common.{◌∙◌, ap, subst, inl, inr, arith, append_assoc, length-append}
@@ -44,7 +44,7 @@ pub record HasNext (setting : Setting) (n t : ℕ) (list : List Event) (steps : 
   pub list_is : list ≡ events setting t steps ++ e ∷ rest
   pub later : All (λ e. suc n ≤ e.ticket) rest
 
--- of a list on turn that contains the event with this ticket, that event is the next
+-- in a list on turn that contains the event with this ticket, that event is the next
 next_is : (setting : Setting) (n t : ℕ) (list : List Event) (steps : List Step) (e : Event) → TicketsRise list
     → All (λ x. x.ticket < n) (events setting t steps) → IsOnTurn setting n t 0 list steps → Contains list e → e.ticket ≡ n → HasNext setting n t list steps e
 next_is setting n t list steps e rise below k among same =
@@ -70,7 +70,7 @@ next_is setting n t list steps e rise below k among same =
               absurd (omega (arith, less, high))
         ]
 
--- ---- the two kinds of turn, at the thread of the event
+-- ---- the two kinds of turns, in the thread of the event
 
 module _ (setting : Setting) (n u : ℕ) (list : List Event) (steps : List Step) (e : Event) (k : IsOnTurn setting n u 0 list steps)
     (next : HasNext setting n u list steps e) (own : e.thread ≡ u) (same : e.ticket ≡ n) (counted : tickets steps ≡ n) where
@@ -195,7 +195,7 @@ module _ (lists : List (List Event)) (fit : AreFit lists) (ring : ℕ) (initial 
   at_place : (t : ℕ) → t < length lists → slice_get lists t ≡ Some (list_of t)
   at_place t within = slice_get-get_or lists t [] within
 
-  -- a list has room for the return of each operation that was asked
+  -- a list has room for the return of each asked operation
   asks_half : (n t : ℕ) (r : IsReplayed n) → t < length lists → 2 * asks t r.steps ≤ length (list_of t)
   asks_half n t r within =
       let k = r.each t (list_of t) (at_place t within) in
@@ -225,7 +225,7 @@ module _ (lists : List (List Event)) (fit : AreFit lists) (ring : ℕ) (initial 
         machine_may = omega (arith, few, (granted_added on steps r.granted).asks_are, all_lengths, fit.not_too_long);
       }
 
-  -- ---- one ticket more
+  -- ---- one more ticket
 
   finish : (n u : ℕ) (steps : List Step) (list : List Event) → slice_get lists u ≡ Some list → AllGranted on steps → without_effects steps ≡ true
       → tickets steps ≡ suc n → IsOnTurn on (suc n) u 1 list steps →

@@ -35,12 +35,12 @@ use Rattle.recorder_core.proofs.Threads.{with_answer, other_thread, own_ask, own
 use Rattle.recorder_core.proofs.Threads.{answer_of_pending, seen_held, seen_none_held, seen_ring, seen_pending, seen_given}
 use Rattle.recorder_core.proofs.Closing.{accepted_is, refused_is}
 
--- what was set at a place stands there
+-- an element that was set is at its place
 pub slice_get-set_same : {X : Type 0} (xs : List X) (i : ℕ) (x : X) → i < length xs → slice_get (set xs i x) i ≡ Some x
 slice_get-set_same xs i x h =
     slice_get-get_or (set xs i x) i x (omega (arith, length-set xs i x, h)) ∙ ap Some (get_or-set_same xs i x x h)
 
--- what stands at another place stays
+-- the elements at other places stay
 pub slice_get-set_other : {X : Type 0} (xs : List X) (i j : ℕ) (x : X) → (i ≡ j → ⊥) → slice_get (set xs i x) j ≡ slice_get xs j
 slice_get-set_other xs i j x ne = elim (cases_lt j (length xs)) [
   | inl within ↦
@@ -56,7 +56,7 @@ thread_at : (items : List ThreadView) (n i : ℕ) (thread : ThreadView) → n �
     → slice_get items i ≡ Some thread
 thread_at items n i thread long found is = slice_get_read items n i thread long (found refl) is
 
--- the thread that a machine holds is what the steps leave
+-- the thread of a machine is in the state after the steps
 pub thread_is : (setting : Setting) (old : MachineView) (before : List Step) (u : ℕ) (thread : ThreadView) → IsLeftBy setting old before
     → slice_get old.threads u ≡ Some thread → (u < setting.threads) × (thread ≡ thread_after setting u before)
 thread_is setting old before u thread left is =
@@ -95,7 +95,7 @@ put_thread setting old before step new asked next items left within is a n q =
 abbrev pub AllCounted : Setting → List Step → Type 0
 AllCounted setting before = (t : ℕ) → Counted setting t before
 
--- what an accepted step does
+-- the effect of an accepted step
 pub step_accepted : (old new : MachineView) (step : Step) (done : Done) → length new.threads ≡ length old.threads
     → ((setting : Setting) (before : List Step) → AllCounted setting before → IsLeftBy setting old before
     → (refusal setting before (record { step = step; starved = false }) ≡ None) × (done ≡ done_of setting step before)
@@ -126,11 +126,11 @@ step_refused old new step r same h = record {
   threads = ap (λ (m : MachineView). length m.threads) same;
 }
 
--- if a step leads, some schedule leads
+-- a step leads from a reachable machine to a reachable one
 pub reachable_on : (old new : MachineView) (step : Step) (result : Result Done StepRefused) → TakesStep old step result new → IsReachable old → IsReachable new
 reachable_on old new step result takes (setting, schedule, after) = (setting, attempt_at step result ∷ schedule, takes.goes_on setting schedule after)
 
--- a thread is put back as it was
+-- a thread that is put back unchanged changes nothing
 pub put_back : (old : MachineView) (i : ℕ) (thread new : ThreadView) → slice_get old.threads i ≡ Some thread → new ≡ thread
     → (let m : MachineView = record old { threads = set old.threads i new } in m) ≡ old
 put_back old i thread new at kept =
@@ -147,9 +147,9 @@ from_map a None asked true h = cc
 from_map a (Some q) asked true h = ap request_of h
 from_map a o asked false h = cc
 
--- ---- the refusals of each step, by what the thread holds
+-- ---- the refusals of each step, by the state of the thread
 
--- the first of two refusals that is met
+-- the first of two optional refusals
 abbrev or_else : {X : Type 0} → Option X → Option X → Option X
 or_else None o = o
 or_else (Some x) o = Some x
@@ -204,14 +204,14 @@ module _ (setting : Setting) (u : ℕ) (before : List Step) (k : Counted setting
       (Closed ∷ Held ∷ PendingRefused ∷ [])
   refusal_close = rw (known, seen_held setting u before k, (seen_pending setting u before k).0) refl
 
--- ---- what the schedule says, by what the thread at place u holds
+-- ---- what the schedule says, by the state of thread u
 
 module _ (old : MachineView) (u : ℕ) (thread : ThreadView) (at : slice_get old.threads u ≡ Some thread) (setting : Setting) (before : List Step)
     (all : AllCounted setting before) (left : IsLeftBy setting old before) where
   shown : (u < setting.threads) × (thread ≡ thread_after setting u before)
   shown = thread_is setting old before u thread left at
 
-  -- what the thread is seen to meet is what the steps leave it to meet
+  -- a function of the thread is a function of its state after the steps
   by_view : (f : ThreadView → Option StepRefused) (o : Option StepRefused) → o ≡ f thread → f (thread_after setting u before) ≡ o
   by_view f o is = ap f (sym shown.1) ∙ sym is
 
@@ -260,7 +260,7 @@ module _ (old : MachineView) (u : ℕ) (thread : ThreadView) (at : slice_get old
       refusal_close setting u before (all u) shown.0 starved
       ∙ by_view (λ x. find (seen x none_other) (Closed ∷ Held ∷ PendingRefused ∷ [])) o is
 
-  -- the request that the thread shows is the one it asked last
+  -- the request of the thread is the last one that it asked
   asked_is : (asked : Request) → thread.pending ≡ Some (record { request = asked; answer = None }) → request u before ≡ Some asked
   asked_is asked is =
       from_map (cond (ltb (returns u before) (answers u before)) (answered setting u before) None) (request u before) asked
@@ -286,7 +286,7 @@ put_ask setting old before u Enq new left within is = put_thread setting old bef
 put_ask setting old before u Deq new left within is = put_thread setting old before (AskDeq u) new _ _ _ left within is (omega (arith, left.asked))
     (omega (arith, left.next_ticket)) left.queue_is
 
--- ---- what each step makes of the thread
+-- ---- the effect of each step on the thread
 
 abbrev after_ask : ThreadView → Request → Event → ThreadView
 after_ask thread asked call = record thread { asked = thread.asked + 1; pending = Some (record { request = asked; answer = None }); held = Some call }
@@ -297,14 +297,14 @@ after_answer thread asked answer = record thread { pending = Some (record { requ
 abbrev after_return : ThreadView → Event → ThreadView
 after_return thread ret = record thread { pending = None; held = Some ret }
 
--- ---- the steps of a machine that holds this thread at place i, and this one afterwards
+-- ---- the steps of a machine with this thread at place i, and that one afterwards
 
 module _ (old : MachineView) (u i n : ℕ) (thread new : ThreadView) (same : i ≡ u) (long : n ≡ length old.threads) (found : true ≡ true → i < n)
     (item : thread ≡ get_or old.threads i thread) where
   at : slice_get old.threads u ≡ Some thread
   at = rw same at (thread_at old.threads n i thread long found item)
 
-  -- an ask that nothing refuses takes the next ticket, and its call event is held
+  -- an ask that isn't refused takes the next ticket, and its call event is held
   pub ask_taken : (kind : Kind) → None ≡ find (seen thread none_other) (Closed ∷ Held ∷ PendingRefused ∷ []) → is_limited thread.asked old.asked ≡ false →
       new ≡ after_ask thread (asked_for kind u thread.asked) (record { ticket = old.next_ticket; thread = u; what = call_of (asked_for kind u thread.asked) }) →
       TakesStep old (ask_of kind u) (Ok (Ticket old.next_ticket)) (record old
@@ -319,7 +319,7 @@ module _ (old : MachineView) (u i n : ℕ) (thread new : ThreadView) (same : i �
       ∙ sym (own_ask setting u before (all u) (may_ask_of setting before u kind none) kind) in
       (none, ap Ticket left.next_ticket ∙ done_ask setting before u kind, put_ask setting old before u kind new left f.0 is')))
 
-  -- a push that nothing refuses puts the held event last into the ring
+  -- a push that isn't refused appends the held event to the ring
   pub push_taken : None ≡ find (seen thread (when_pushing (leb old.capacity (length thread.ring)) false)) (Closed ∷ NothingHeld ∷ RingFull ∷ Memory ∷ []) →
       new ≡ record thread { held = None; ring = with_last thread.ring thread.held } →
       TakesStep old (Push u) (Ok Pushed) (record old { threads = set old.threads i new })
@@ -334,7 +334,7 @@ module _ (old : MachineView) (u i n : ℕ) (thread new : ThreadView) (same : i �
             (changed ∙ ap P f.1 ∙ sym own) left.asked left.next_ticket left.queue_is,
       )))
 
-  -- an effect that nothing refuses gives the queue's answer, and the queue changes
+  -- an effect that isn't refused gives the queue's answer, and changes the queue
   pub effect_taken : (asked : Request) (answer : Answer) (items : List ℕ) → None ≡ find (seen thread none_other) (Closed ∷ NotPending ∷ AnswerTaken ∷ []) →
       thread.pending ≡ Some (record { request = asked; answer = None }) → answer ≡ queue_answer asked old.queue → items ≡ queue_after asked old.queue
       → new ≡ after_answer thread asked answer →
@@ -353,7 +353,7 @@ module _ (old : MachineView) (u i n : ℕ) (thread new : ThreadView) (same : i �
             (rw (q, ← left.queue_is) leaves),
       )))
 
-  -- an answer of the right kind that nothing refuses is given, and the queue stays
+  -- an answer of the right kind that isn't refused is given, and leaves the queue
   pub say_taken : (asked : Request) (told : Answer) → None ≡ find (seen thread none_other) (Closed ∷ NotPending ∷ AnswerTaken ∷ []) →
       thread.pending ≡ Some (record { request = asked; answer = None }) → is_wrong told (Some asked) ≡ false → new ≡ after_answer thread asked told →
       TakesStep old (Say u told) (Ok (Answered told)) (record old { threads = set old.threads i new })
@@ -367,7 +367,7 @@ module _ (old : MachineView) (u i n : ℕ) (thread new : ThreadView) (same : i �
       let is' = changed ∙ ap (λ (x : ThreadView). after_answer x asked told) f.1 ∙ sym own in
       (none, refl, put_thread setting old before (Say u told) new old.asked old.next_ticket old.queue left f.0 is' left.asked left.next_ticket left.queue_is)))
 
-  -- a return that nothing refuses takes the next ticket, and its event is held
+  -- a return that isn't refused takes the next ticket, and its event is held
   pub return_taken : (answer : Answer) → None ≡ find (seen thread none_other) (Closed ∷ Held ∷ NotPending ∷ NoAnswer ∷ [])
       → given_answer thread.pending ≡ Some answer →
       new ≡ after_return thread (record { ticket = old.next_ticket; thread = u; what = return_what answer }) →
@@ -402,7 +402,7 @@ module _ (old : MachineView) (u i n : ℕ) (thread new : ThreadView) (same : i �
             (Drain u n) new old.asked old.next_ticket old.queue left f.0 is' left.asked left.next_ticket left.queue_is,
       )))
 
-  -- a close that nothing refuses closes the thread
+  -- a close that isn't refused closes the thread
   pub close_taken : None ≡ find (seen thread none_other) (Closed ∷ Held ∷ PendingRefused ∷ []) → new ≡ record thread { closed = true } →
       TakesStep old (Close u) (Ok CloseDone) (record old { threads = set old.threads i new })
   close_taken is changed = rw same (step_accepted old _ (Close u) CloseDone (length-set old.threads u new) (λ setting before all left.
@@ -478,11 +478,11 @@ module _ (old : MachineView) (u i n : ℕ) (thread new : ThreadView) (same : i �
       → TakesStep old (Close u) (Err r) (record old { threads = set old.threads i new })
   close_refused r is = refused_at (Close u) r (λ setting before all left. says_close old u thread at_place setting before all left (is_memory r) (Some r) is)
 
--- a place that was looked up in vain
+-- a place that was looked up without success
 pub past_end : (n i : ℕ) → (i < n → false ≡ true) → n ≤ i
 past_end n i none = elim (cases_lt i n) [ inl within ↦ absurd (false≢true (none within)) | inr past ↦ past ]
 
--- an ask of a thread that is not there
+-- an ask of a thread that doesn't exist
 pub ask_unknown : (old : MachineView) (u : ℕ) (kind : Kind) → length old.threads ≤ u → TakesStep old (ask_of kind u) (Err NoThread) old
 ask_unknown old u Enq h = step_refused old old (AskEnq u) NoThread refl
     (λ setting before all left. let e : leb setting.threads u ≡ true = le-leb _ _ (omega (arith, h, left.threads)) in rw e refl)

@@ -1,4 +1,4 @@
--- What each step does to what a machine holds for a thread.
+-- The effect of each step on the state of a thread.
 use Prim.Native.Nat.compare
 use Rattle.std.proofs.Common.{◌≡◌, ℕ, zero, suc, ◌+◌, ◌<◌, ◌≤◌, min, Bool, true, false, not, cond, List, [], ◌∷◌, ◌++◌, length, take, drop, Option}
 use Rattle.std.proofs.Common.{None, Some, refl, sym, ap, ◌∙◌, inl, inr, arith, eqb, ltb, leb, is_some, length-take, length-drop}
@@ -32,7 +32,7 @@ use Rattle.recorder_core.proofs.Counts.{Counted, has_answer}
 abbrev pub with_answer : Option Answer → Request → Pending
 with_answer a q = record { request = q; answer = a }
 
--- two threads that agree in all are one
+-- threads that agree in all fields are equal
 pub same_view : (a b : ThreadView) → a.closed ≡ b.closed → a.asked ≡ b.asked → a.pending ≡ b.pending → a.held ≡ b.held → a.ring ≡ b.ring
     → a.collected ≡ b.collected → a ≡ b
 same_view a b p q r s t u =
@@ -49,7 +49,7 @@ slice_get_at [] x n e = rw (sym e) refl
 slice_get_at (y ∷ xs) x zero e = absurd (omega arith)
 slice_get_at (y ∷ xs) x (suc n) e = slice_get_at xs x n (omega arith)
 
--- one item more of a list, if there is one
+-- one more item of a list, if there is one
 pub take_next : {X : Type 0} (xs : List X) (n : ℕ) → take (suc n) xs ≡ with_last (take n xs) (slice_get xs n)
 take_next [] zero = refl
 take_next [] (suc n) = refl
@@ -60,24 +60,24 @@ take_next (x ∷ xs) (suc n) = ap (λ l. x ∷ l) (take_next xs n) ∙ joined x 
     joined y ys None = refl
     joined y ys (Some z) = refl
 
--- the rest of a list with one element more
+-- the rest of a list with one more element
 pub drop-with_last : {X : Type 0} (n : ℕ) (xs : List X) (o : Option X) → n ≤ length xs → drop n (with_last xs o) ≡ with_last (drop n xs) o
 drop-with_last n xs None h = refl
 drop-with_last n xs (Some x) h = drop-append-le n xs (x ∷ []) h
 
--- a place has an element if it is in range
+-- there is an element at a place if and only if it is in range
 pub is_some-slice_get : {X : Type 0} (xs : List X) (n : ℕ) → is_some (slice_get xs n) ≡ ltb n (length xs)
 is_some-slice_get [] n = sym (le-ltb n 0 (omega arith))
 is_some-slice_get (x ∷ xs) zero = sym (lt-ltb 0 (suc (length xs)) (omega arith))
 is_some-slice_get (x ∷ xs) (suc n) = rw compare.suc-suc (is_some-slice_get xs n)
 
--- a place has none if it isn't
+-- there is no element at a place if and only if it isn't in range
 pub is_none-slice_get : {X : Type 0} (xs : List X) (n : ℕ) → is_none (slice_get xs n) ≡ leb (length xs) n
 is_none-slice_get [] n = sym (le-leb 0 n (omega arith))
 is_none-slice_get (x ∷ xs) zero = sym (lt-leb (suc (length xs)) 0 (omega arith))
 is_none-slice_get (x ∷ xs) (suc n) = rw compare.suc-suc (is_none-slice_get xs n)
 
--- who has asked has a last request
+-- if a thread has asked, it has a last request
 pub has_request : (t : ℕ) (steps : List Step) → 0 < asks t steps → is_some (request t steps) ≡ true
 has_request t [] h = absurd (omega arith)
 has_request t (AskEnq u ∷ before) h = elim (cases_eq u t) [
@@ -108,7 +108,7 @@ other_thread setting t (Drain u k) before ne = rw (ne_eqb u t ne) refl
 other_thread setting t (Close u) before ne = rw (ne_eqb u t ne) refl
 
 module _ (setting : Setting) (u : ℕ) (before : List Step) (k : Counted setting u before) where
-  -- an event more changes neither what is collected nor what is in the ring
+  -- one more event changes neither the collected events nor those in the ring
   ring_kept : (event : Event) → drop (drained u before) (take (pushes u before) (events setting u before ++ event ∷ [])) ≡ drop (drained u before)
       (take (pushes u before) (events setting u before))
   ring_kept event = ap (drop (drained u before)) (take-append-le (pushes u before) (events setting u before) (event ∷ []) (omega arith))
@@ -125,7 +125,7 @@ module _ (setting : Setting) (u : ℕ) (before : List Step) (k : Counted setting
       let e2 : ltb (returns u before) (answers u before) ≡ false = le-ltb (returns u before) (answers u before) (omega arith) in
       rw (e1, e2) refl
 
-  -- an ask leaves its thread with a call that is pending and held
+  -- after an ask the call of its thread is pending and held
   pub own_ask : MayAsk setting u before → (kind : Kind) → thread_after setting u (ask_of kind u ∷ before) ≡ record (thread_after setting u before) {
     asked = asks u before + 1;
     pending = Some (record { request = asked_for kind u (asks u before); answer = None });
@@ -182,7 +182,7 @@ module _ (setting : Setting) (u : ℕ) (before : List Step) (k : Counted setting
       of_map None h = cc
       of_map (Some q) h = h
 
-  -- a return leaves its thread with its event held, and nothing pending
+  -- after a return its event is held, and nothing is pending
   pub own_return : MayReturn setting u before → (answer : Answer) → answered setting u before ≡ Some answer
       → thread_after setting u (Ret u ∷ before) ≡ record (thread_after setting u before) {
         pending = None;
@@ -206,11 +206,11 @@ module _ (setting : Setting) (u : ℕ) (before : List Step) (k : Counted setting
       (sym (drop-drop m d (take p l)))
       (sym (take-take (d + m) p l fits) ∙ take-add d m (take p l) ∙ ap (λ (x : List Event). x ++ take m (drop d (take p l))) (take-take d p l (omega arith))))
 
-  -- a close leaves its thread closed
+  -- after a close its thread is closed
   pub own_close : thread_after setting u (Close u ∷ before) ≡ record (thread_after setting u before) { closed = true }
   own_close = rw (same_number u) refl
 
-  -- what a thread is seen to hold, by the counts
+  -- a thread holds an event if it pushed fewer than it asked and returned
   pub seen_held : is_some (thread_after setting u before).held ≡ ltb (pushes u before) (asks u before + returns u before)
   seen_held = is_some-slice_get (events setting u before) (pushes u before) ∙ ap (ltb (pushes u before)) k.events_are
 
@@ -218,7 +218,7 @@ module _ (setting : Setting) (u : ℕ) (before : List Step) (k : Counted setting
   pub seen_none_held : is_none (thread_after setting u before).held ≡ leb (asks u before + returns u before) (pushes u before)
   seen_none_held = is_none-slice_get (events setting u before) (pushes u before) ∙ ap (λ (n : ℕ). leb n (pushes u before)) k.events_are
 
-  -- a ring has as many events as the counts tell
+  -- the number of events in a ring, by the counts
   pub seen_ring : length (thread_after setting u before).ring ≡ in_ring u before
   seen_ring = omega (
     arith,
@@ -251,7 +251,7 @@ module _ (setting : Setting) (u : ℕ) (before : List Step) (k : Counted setting
   given-mapped f a h None s = cc
   given-mapped f a h (Some q) s = h q
 
-  -- the answer that the pending operation has
+  -- the answer of the pending operation
   pub given : returns u before < asks u before → given_answer (thread_after setting u before).pending ≡ cond
       (ltb (returns u before) (answers u before)) (answered setting u before) None
   given less =

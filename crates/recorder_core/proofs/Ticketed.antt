@@ -1,4 +1,4 @@
--- Operations precede one another as their steps stand.
+-- The order of operations is that of their steps.
 use Rattle.std.proofs.Common.{◌≡◌, ℕ, Bool, true, false, cond, List, [], ◌∷◌, Option, Some, None, refl, sym, ◌∙◌, ap, subst, inl, inr}
 use Rattle.std.specs.Prelude.{Contains, find, nat_eq, flat_map, ◌↔◌}
 use Rattle.std.specs.List.{cons_option}
@@ -58,7 +58,7 @@ made_by call answer o is threads = by_kind (kind_of call.what answer.what) refl 
               ∙ ap operation_return same,
         )
 
--- both are events of the history
+-- the call and the return of an operation are events of the history
 pub operation_events : (events : List Event) (o : Operation) → Contains (operations_of events) o
     → Contains events (operation_call o) × Contains events (operation_return o)
 operation_events [] o among = absurd (not_in_none o among)
@@ -92,7 +92,7 @@ module _ (setting : Setting) (schedule : List Attempt) (merged : List Event) (is
       let l = list_at (λ t. collected_in setting schedule t) setting.threads j.0 j.1 j.2 in
       (j.0, collected_is_event setting schedule j.0 e (subst (λ (list : List Event). Contains list e) l.1 j.3))
 
-  -- an operation precedes another if and only if its return step stands before the other's ask
+  -- an operation precedes another if and only if its return step comes before the other's ask
   pub precedes_as_stands : (x y : Operation) → Contains (operations_of merged) x → Contains (operations_of merged) y
       → Precedes x y ↔ ReturnsBeforeAsk setting schedule x y
   precedes_as_stands x y in_x in_y =

@@ -18,7 +18,7 @@ abbrev pub total : (ℕ → ℕ) → ℕ → ℕ
 total f zero = 0
 total f (suc n) = total f n + f n
 
--- a sum of less is less
+-- a sum of smaller terms is smaller
 pub total_below : (f g : ℕ → ℕ) (n : ℕ) → ((t : ℕ) → f t ≤ g t) → total f n ≤ total g n
 total_below f g zero h = omega arith
 total_below f g (suc n) h = omega (arith, total_below f g n h, h n)
@@ -29,7 +29,7 @@ total_same f u (suc n) h =
     let ne : u ≡ n → ⊥ = λ e. omega arith in
     rw (ne_eqb u n ne) (ap (λ (s : ℕ). s + f n) (total_same f u n (omega arith)))
 
--- one more at one thread is one more in all
+-- one more in one thread is one more in the sum
 pub total_more : (f : ℕ → ℕ) (u n : ℕ) → u < n → total (λ t. cond (eqb u t) (suc (f t)) (f t)) n ≡ suc (total f n)
 total_more f u zero h = absurd (omega arith)
 total_more f u (suc n) h = elim (cases_eq u n) [
@@ -47,13 +47,13 @@ longer : {X : Type 0} (b : Bool) (x : X) (xs : List X) → length (cond b (x ∷
 longer true x xs = refl
 longer false x xs = refl
 
--- the asks of all threads are those of each; each ticket is one of an ask or of a return
+-- the asks of all threads are the sum of those of each; each ticket is that of an ask or of a return
 pub record AddUp (threads asked ticketed : ℕ) (asked_by returned_by : ℕ → ℕ) : Type 0 where
   pub asks_are : asked ≡ total asked_by threads
   pub tickets_are : ticketed ≡ asked + total returned_by threads
   pub limited : asked ≤ MAX_OPERATIONS
 
--- what holds of all threads together
+-- facts about all threads together
 abbrev pub Added : Setting → List Step → Type 0
 Added setting steps = AddUp setting.threads (all_asks steps) (tickets steps) (λ t. asks t steps) (λ t. returns t steps)
 
@@ -84,7 +84,7 @@ none_yet : (n : ℕ) → 0 ≡ total (λ t. 0) n
 none_yet zero = refl
 none_yet (suc n) = omega (arith, none_yet n)
 
--- after any schedule
+-- these hold after any schedule
 pub added : (setting : Setting) (schedule : List Attempt) → Added setting (accepted setting schedule)
 added setting schedule = after_each setting (Added setting)
     (record { asks_are = none_yet setting.threads; tickets_are = omega (arith, none_yet setting.threads); limited = omega arith })
@@ -99,7 +99,7 @@ tickets_limited setting schedule =
     total_below _ _ setting.threads (λ t. let c : Counted setting t steps = counted setting t schedule in omega (arith, c.returned_below, c.answered_below)) in
     omega (arith, k.limited, k.tickets_are, k.asks_are, b)
 
--- a machine that some schedule leaves has asked no more than it may, and has taken at most two tickets for each
+-- a reachable machine has asked no more than it may, and has taken at most two tickets for each operation
 pub is_small : (machine : MachineView) → IsReachable machine → (machine.asked ≤ MAX_OPERATIONS) × (machine.next_ticket ≤ 2 * MAX_OPERATIONS)
 is_small machine (setting, schedule, after) = (
   omega (arith, after.asked, (added setting schedule).limited),
@@ -109,12 +109,12 @@ is_small machine (setting, schedule, after) = (
 
 -- ---- sums of two kinds, thread by thread
 
--- a sum of doubles is double
+-- a bound by doubles holds of sums
 pub total_doubled : (f g : ℕ → ℕ) (n : ℕ) → ((t : ℕ) → t < n → 2 * f t ≤ g t) → 2 * total f n ≤ total g n
 total_doubled f g zero h = omega arith
 total_doubled f g (suc n) h = omega (arith, total_doubled f g n (λ t below. h t (omega arith)), h n (omega arith))
 
--- the bound, with two to spare at one thread
+-- the bound of sums, with two to spare in one thread
 pub total_doubled_less : (f g : ℕ → ℕ) (u n : ℕ) → ((t : ℕ) → t < n → 2 * f t ≤ g t) → u < n → 2 * f u + 2 ≤ g u → 2 * total f n + 2 ≤ total g n
 total_doubled_less f g u zero h within more = absurd (omega arith)
 total_doubled_less f g u (suc n) h within more = elim (cases_eq u n) [

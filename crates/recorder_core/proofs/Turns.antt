@@ -12,18 +12,18 @@ use Rattle.recorder_core.specs.Inner.Asked.{call_of}
 use Rattle.event_records.specs.Question.{return_what}
 use Rattle.recorder_core.specs.Schedule.{is_wrong}
 
--- what follows whole operations takes turns too
+-- the events after complete operations take turns too
 pub turns_split : (events later : List Event) → TakesTurns events → TakesTurns (events ++ later) → TakesTurns later
 turns_split [] later turns both = both
 turns_split (e ∷ []) later turns both = absurd turns
 turns_split (e ∷ f ∷ events) later turns both = turns_split events later turns.1 both.1
 
--- and what begins with the call that is pending
+-- the events from the pending call on take turns too
 pub turns_from_call : (events : List Event) (call : Event) (later : List Event) → TakesTurns events → TakesTurns ((events ++ call ∷ []) ++ later)
     → TakesTurns (call ∷ later)
 turns_from_call events call later turns both = turns_split events (call ∷ later) turns (rw append_assoc at both)
 
--- whole turns are an even number of events
+-- complete turns are an even number of events
 pub turns_even : (events : List Event) → TakesTurns events → (h : ℕ) × (length events ≡ 2 * h)
 turns_even [] turns = (zero, refl)
 turns_even (e ∷ []) turns = absurd turns
@@ -46,7 +46,7 @@ pub first_is_call : (e : Event) (later : List Event) → TakesTurns (e ∷ later
 first_is_call e [] turns = absurd turns
 first_is_call e (f ∷ later) turns = call_cases e.what f.what turns.0
 
--- which answer a return gives
+-- the answer that a return gives
 pub answer_in : (asked : Request) (what : What) → answers (call_of asked) what ≡ true
     → (a : Answer) × (what ≡ return_what a) × (is_wrong a (Some asked) ≡ false)
 answer_in (Enqueue v) RetEnq fit = (Taken, refl, refl)

@@ -1,4 +1,4 @@
--- The words of what holds of every schedule.
+-- The words of the laws of every schedule.
 use Rattle.std.specs.Prelude.{map, ◌≡◌, ℕ, ◌<◌, ◌++◌, true, List, ◌∷◌, Some, None}
 use Rattle.std.specs.List.{range_with_len}
 use Rattle.event_records.specs.declared.event.Event.{Event}
@@ -21,28 +21,28 @@ IsPrefix {X} first whole = (rest : List X) × (first ++ rest ≡ whole)
 abbrev pub events_in : Setting → List Attempt → ℕ → List Event
 events_in setting schedule t = events setting t (accepted setting schedule)
 
--- those of them that are collected
+-- the collected events of t
 abbrev pub collected_in : Setting → List Attempt → ℕ → List Event
 collected_in setting schedule t = (thread_after setting t (accepted setting schedule)).collected
 
--- every thread is closed, and everything pushed is drained
+-- every thread is closed, and all pushed events are drained
 abbrev pub IsDone : Setting → List Attempt → Type 0
 IsDone setting schedule =
     let steps = accepted setting schedule in
     (t : ℕ) → t < setting.threads → (is_closed t steps ≡ true) × (pushes t steps ≡ drained t steps)
 
--- the step is for open threads alone: it is any but a drain
+-- the step is for open threads only: any step but a drain
 abbrev pub NeedsOpenThread : Step → Type 0
 NeedsOpenThread (Drain t k) = ⊥
 NeedsOpenThread _ = Unit {0}
 
--- the attempt, tried after this schedule, is accepted and gives this event
+-- the attempt after this schedule is accepted and gives this event
 abbrev pub Gives : Setting → List Attempt → Attempt → Event → Type 0
 Gives setting before attempt event =
     let steps = accepted setting before in
     (refusal setting steps attempt ≡ None) × (event_of setting event.thread attempt.step steps ≡ Some event)
 
--- the step that gives the first event stands before the step that gives the second
+-- the step that gives the first event comes before the step that gives the second
 pub record StandsBefore (setting : Setting) (schedule : List Attempt) (first second : Event) : Type 0 where
   pub before : List Attempt
   pub one : Attempt
@@ -53,29 +53,29 @@ pub record StandsBefore (setting : Setting) (schedule : List Attempt) (first sec
   pub gives_first : Gives setting before one first
   pub gives_second : Gives setting (between ++ one ∷ before) other second
 
--- what the call of an operation asks that did this
+-- the call of an operation of this kind
 abbrev pub call_of_kind : OpKind → What
 call_of_kind (Enq v) = CallEnq v
 call_of_kind (Not v) = CallEnq v
 call_of_kind (Deq v) = CallDeq
 call_of_kind Empty = CallDeq
 
--- what its return answers
+-- the return of an operation of this kind
 abbrev pub return_of_kind : OpKind → What
 return_of_kind (Enq v) = RetEnq
 return_of_kind (Not v) = RetNot
 return_of_kind (Deq v) = RetDeq v
 return_of_kind Empty = RetEmpty
 
--- the event with which an operation was called
+-- the event of an operation's call
 abbrev pub operation_call : Operation → Event
 operation_call o = record { ticket = o.call; thread = o.thread; what = call_of_kind o.kind }
 
--- the event with which it returned
+-- the event of an operation's return
 abbrev pub operation_return : Operation → Event
 operation_return o = record { ticket = o.ret; thread = o.thread; what = return_of_kind o.kind }
 
--- the return step of the first operation stands before the ask of the second
+-- the return step of the first operation comes before the ask of the second
 abbrev pub ReturnsBeforeAsk : Setting → List Attempt → Operation → Operation → Type 0
 ReturnsBeforeAsk setting schedule x y = StandsBefore setting schedule (operation_return x) (operation_call y)
 

@@ -30,7 +30,7 @@ abbrev pub is_effect : Step → Bool
 is_effect (Effect t) = true
 is_effect _ = false
 
--- whether it gives an answer from outside
+-- whether a step gives an answer from outside
 abbrev pub is_say : Step → Bool
 is_say (Say t answer) = true
 is_say _ = false
@@ -41,16 +41,16 @@ IsHonest setting schedule = IsTrue (list_all (λ step. not (is_say step)) (accep
 
 -- ---- recorded lists
 
--- the list of thread t: its events alone, in turn, of no more operations than a thread may ask; if its n-th operation, from 0, is an enqueue, the call has the value that is
--- named by t and n
+-- the list of thread t: its events alone, in turn, of no more operations than a thread may ask; if its n-th
+-- operation, from 0, is an enqueue, its value has the name of t and n
 pub record IsListOf (t : ℕ) (events : List Event) : Type 0 where
   pub own : All (λ event. event.thread ≡ t) events
   pub alternates : Alternates events
   pub names : (n value : ℕ) (call : Event) → slice_get events (2 * n) ≡ Some call → call.what ≡ CallEnq value → value ≡ value_name t n
   pub not_too_long : length events ≤ 2 * MAX_THREAD_OPERATIONS
 
--- one list for each of 1 to 64 threads, of no more operations together than a machine may be asked, whose tickets together are the
--- numbers below their total, each once
+-- one list for each of 1 to 64 threads, of no more operations together than a machine may be asked, whose tickets
+-- together are the numbers below their total, each once
 pub record AreRecorded (lists : List (List Event)) : Type 0 where
   pub some : 1 ≤ length lists
   pub not_too_many : length lists ≤ MAX_THREADS
@@ -62,7 +62,8 @@ pub record AreRecorded (lists : List (List Event)) : Type 0 where
 abbrev pub setting_for : ℕ → List ℕ → List (List Event) → Setting
 setting_for ring initial lists = record { threads = length lists; ring = ring; initial = initial }
 
--- on this setting some schedule without effects, each of whose steps is accepted, is done and collects these lists
+-- in this setting there is a schedule without effects that is done and collects these lists, and each of whose steps
+-- is accepted
 pub record Replays (ring : ℕ) (initial : List ℕ) (lists : List (List Event)) : Type 0 where
   pub schedule : List Attempt
   pub without_effects : IsTrue (list_all (λ attempt. not (is_effect attempt.step)) schedule)
@@ -72,20 +73,20 @@ pub record Replays (ring : ℕ) (initial : List ℕ) (lists : List (List Event))
 
 -- ---- effects
 
--- the thread and the number of the operation of each effect, in the order of the effects
+-- the thread and the operation's number of each effect, in the order of the effects
 abbrev pub effected : List Step → List (ℕ × ℕ)
 effected [] = []
 effected (Effect t ∷ before) = effected before ++ (t, answers t before) ∷ []
 effected (_ ∷ before) = effected before
 
--- the operation with number n in the list of one thread: its call and its return are the events at places 2n and 2n + 1
+-- the operation with number n in the list of one thread, of the events at places 2n and 2n + 1
 abbrev pub operation_in : List Event → ℕ → Option Operation
 operation_in events n = elim (slice_get events (2 * n)) [
   | None ↦ None
   | Some call ↦ operation_of call (slice_get events (2 * n + 1))
 ]
 
--- the operation of this thread and number
+-- the operation with this thread and number
 abbrev pub operation_at : Setting → List Step → ℕ × ℕ → Option Operation
 operation_at setting steps (t, n) = operation_in (events setting t steps) n
 
@@ -93,14 +94,14 @@ operation_at setting steps (t, n) = operation_in (events setting t steps) n
 abbrev pub effects_order : Setting → List Step → List Operation
 effects_order setting steps = filter_map (operation_at setting steps) (effected steps)
 
--- what an operation did that asked this and was told that
+-- the kind of an operation with this request and this answer
 abbrev pub kind_told : Request → Answer → OpKind
 kind_told (Enqueue value) Taken = Enq value
 kind_told (Enqueue value) _ = Not value
 kind_told Dequeue (Got value) = Deq value
 kind_told Dequeue _ = Empty
 
--- what the effects did, in their order
+-- the kinds of the effects, in their order
 abbrev pub effect_kinds : Setting → List Step → List OpKind
 effect_kinds setting [] = []
 effect_kinds setting (Effect t ∷ before) =

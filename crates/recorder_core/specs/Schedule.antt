@@ -1,7 +1,6 @@
--- What a schedule means: which of its steps are accepted, and what each accepted step gives.
--- In every list of attempts or of steps the latest stands first, so the rest of a list is what came before.
--- Whatever a thread's queue, answers and events are is read off the accepted steps by counts and filters: there is no ring,
--- no held event and no state.
+-- The meaning of a schedule: which of its steps are accepted, and what each accepted step gives. In every list of
+-- attempts or steps the latest comes first, so the rest of a list is what came before. The queue, answers and events
+-- of threads follow from the accepted steps by counts and filters: there is no ring, no held event and no state.
 use Rattle.std.specs.Prelude.{ℕ, ◌+◌, ◌-◌, min, Bool, true, false, not, ◌||◌, ◌==◌, nat_lt, nat_le, if◌then◌else◌, List, [], ◌∷◌, ◌++◌, length}
 use Rattle.std.specs.Prelude.{filter, find, drop, Option, None, Some, Result, Ok, Err}
 use Rattle.std.specs.List.{list_any}
@@ -23,7 +22,7 @@ use Rattle.recorder_core.specs.declared.step.StepRefused.{StepRefused}
 use Rattle.recorder_core.specs.declared.step.StepRefused.TheVariants.{NoThread, Closed, Held, NothingHeld, RingFull, Pending, NotPending, NoAnswer}
 use Rattle.recorder_core.specs.declared.step.StepRefused.TheVariants.{AnswerTaken, WrongAnswer, Limit, Memory}
 
--- a step that is tried, and whether its growth is refused; only a push, an effect and a drain grow
+-- a step that is tried, and whether memory runs out for it; only a push, an effect and a drain take memory
 pub record Attempt : Type 0 where
   pub step : Step
   pub starved : Bool
@@ -36,76 +35,77 @@ is_ask t (AskEnq u) = u == t
 is_ask t (AskDeq u) = u == t
 is_ask t _ = false
 
--- whether it gives the pending operation of t an answer
+-- whether a step gives the pending operation of t an answer
 abbrev pub is_answer : ℕ → Step → Bool
 is_answer t (Effect u) = u == t
 is_answer t (Say u answer) = u == t
 is_answer t _ = false
 
--- whether it is a return of t
+-- whether a step is a return of t
 abbrev pub is_return : ℕ → Step → Bool
 is_return t (Ret u) = u == t
 is_return t _ = false
 
--- whether it is a push of t
+-- whether a step is a push of t
 abbrev pub is_push : ℕ → Step → Bool
 is_push t (Push u) = u == t
 is_push t _ = false
 
--- whether it is a close of t
+-- whether a step is a close of t
 abbrev pub is_close : ℕ → Step → Bool
 is_close t (Close u) = u == t
 is_close t _ = false
 
--- whether it is an ask of any thread
+-- whether a step is an ask of any thread
 abbrev pub is_any_ask : Step → Bool
 is_any_ask (AskEnq u) = true
 is_any_ask (AskDeq u) = true
 is_any_ask _ = false
 
--- whether it takes a ticket, as asks and returns do
+-- whether a step takes a ticket, as asks and returns do
 abbrev pub is_ticket_step : Step → Bool
 is_ticket_step (AskEnq u) = true
 is_ticket_step (AskDeq u) = true
 is_ticket_step (Ret u) = true
 is_ticket_step _ = false
 
--- how many of the steps pass a test
+-- the number of steps that pass a test
 abbrev pub count_of : (Step → Bool) → List Step → ℕ
 count_of test steps = length (filter test steps)
 
--- how many operations t asked
+-- the number of operations that t asked
 abbrev pub asks : ℕ → List Step → ℕ
 asks t steps = count_of (is_ask t) steps
 
--- how many of them were answered
+-- the number of operations of t that were answered
 abbrev pub answers : ℕ → List Step → ℕ
 answers t steps = count_of (is_answer t) steps
 
--- how many of them returned
+-- the number of operations of t that returned
 abbrev pub returns : ℕ → List Step → ℕ
 returns t steps = count_of (is_return t) steps
 
--- how many events t pushed
+-- the number of events that t pushed
 abbrev pub pushes : ℕ → List Step → ℕ
 pushes t steps = count_of (is_push t) steps
 
--- how many operations all threads asked
+-- the number of operations that all threads asked
 abbrev pub all_asks : List Step → ℕ
 all_asks steps = count_of is_any_ask steps
 
--- how many tickets are taken, and so the next ticket
+-- the number of tickets taken, which is the next ticket
 abbrev pub tickets : List Step → ℕ
 tickets steps = count_of is_ticket_step steps
 
--- the sum of what the drains of t took, each the lesser of its number and what was pushed and not yet drained
+-- the number of events that the drains of t took: each takes as many as it says, or all that are pushed and not yet
+-- drained if these are fewer
 abbrev pub drained : ℕ → List Step → ℕ
 drained t [] = 0
 drained t (Drain u k ∷ before) =
     if u == t then drained t before + min k (pushes t before - drained t before) else drained t before
 drained t (_ ∷ before) = drained t before
 
--- how many events of t are pushed and not yet drained
+-- the number of events of t that are pushed and not yet drained
 abbrev pub in_ring : ℕ → List Step → ℕ
 in_ring t steps = pushes t steps - drained t steps
 
@@ -115,25 +115,25 @@ is_closed t steps = list_any (is_close t) steps
 
 -- ---- requests, answers and the machine's queue, which is the sequential specification
 
--- what t asked last
+-- the last request of t
 abbrev pub request : ℕ → List Step → Option Request
 request t [] = None
 request t (AskEnq u ∷ before) = if u == t then Some (Enqueue (value_name t (asks t before))) else request t before
 request t (AskDeq u ∷ before) = if u == t then Some Dequeue else request t before
 request t (_ ∷ before) = request t before
 
--- what a queue answers
+-- the answer of a queue
 abbrev pub queue_answer : Request → List ℕ → Answer
 queue_answer (Enqueue value) queue = Taken
 queue_answer Dequeue [] = Empty
 queue_answer Dequeue (first ∷ rest) = Got first
 
--- what a queue contains after a request
+-- the queue after a request
 abbrev pub queue_after : Request → List ℕ → List ℕ
 queue_after (Enqueue value) queue = queue ++ value ∷ []
 queue_after Dequeue queue = drop 1 queue
 
--- the machine's queue, which holds the initial values at first, after the effects among these steps
+-- the machine's queue after the effects among these steps, beginning with the initial values
 abbrev pub queue : Setting → List Step → List ℕ
 queue setting [] = setting.initial
 queue setting (Effect u ∷ before) =
@@ -144,7 +144,7 @@ queue setting (_ ∷ before) = queue setting before
 abbrev pub effect_answer : Setting → ℕ → List Step → Answer
 effect_answer setting t before = option_map_or (λ asked. queue_answer asked (queue setting before)) (request t before) Empty
 
--- what t was answered last
+-- the last answer to t
 abbrev pub answered : Setting → ℕ → List Step → Option Answer
 answered setting t [] = None
 answered setting t (Effect u ∷ before) = if u == t then Some (effect_answer setting t before) else answered setting t before
@@ -177,7 +177,7 @@ events setting t (step ∷ before) = with_last (events setting t before) (event_
 
 -- ---- refusals
 
--- the thread whose step it is
+-- the thread of a step
 abbrev pub thread_of : Step → ℕ
 thread_of (AskEnq t) = t
 thread_of (AskDeq t) = t
@@ -188,19 +188,19 @@ thread_of (Ret t) = t
 thread_of (Drain t k) = t
 thread_of (Close t) = t
 
--- whether an enqueue may be answered this
+-- whether this is an answer to an enqueue
 abbrev pub is_enqueue_answer : Answer → Bool
 is_enqueue_answer Taken = true
 is_enqueue_answer Not = true
 is_enqueue_answer _ = false
 
--- whether this answer is of the other kind than the operation that was asked
+-- whether the answer is of the other kind than the request
 abbrev pub is_wrong : Answer → Option Request → Bool
 is_wrong answer None = false
 is_wrong answer (Some (Enqueue value)) = not (is_enqueue_answer answer)
 is_wrong answer (Some Dequeue) = is_enqueue_answer answer
 
--- whether a step gives an operation an answer of another kind
+-- whether a step gives an operation an answer of the other kind
 abbrev pub is_told_wrong : Step → Option Request → Bool
 is_told_wrong (Say t answer) asked = is_wrong answer asked
 is_told_wrong _ asked = false
@@ -220,7 +220,7 @@ meets setting before attempt WrongAnswer = is_told_wrong attempt.step (request (
 meets setting before attempt Limit = nat_le MAX_THREAD_OPERATIONS (asks (thread_of attempt.step) before) || nat_le MAX_OPERATIONS (all_asks before)
 meets setting before attempt Memory = attempt.starved
 
--- the refusals that a step can give, in the order in which they are looked for
+-- the refusals that a step can meet, in the order in which they are checked
 abbrev pub refusals_of : Step → List StepRefused
 refusals_of (AskEnq t) = NoThread ∷ Closed ∷ Held ∷ Pending ∷ Limit ∷ []
 refusals_of (AskDeq t) = NoThread ∷ Closed ∷ Held ∷ Pending ∷ Limit ∷ []
@@ -235,7 +235,7 @@ refusals_of (Close t) = NoThread ∷ Closed ∷ Held ∷ Pending ∷ []
 abbrev pub refusal : Setting → List Step → Attempt → Option StepRefused
 refusal setting before attempt = find (meets setting before attempt) (refusals_of attempt.step)
 
--- ---- accepted steps, and what a step is answered
+-- ---- accepted steps, and the results of steps
 
 -- the accepted steps of a schedule: those that meet no refusal after the accepted steps before them
 abbrev pub accepted : Setting → List Attempt → List Step
@@ -245,7 +245,7 @@ accepted setting (attempt ∷ before) =
     then attempt.step ∷ accepted setting before
     else accepted setting before
 
--- what an accepted step is answered
+-- the result of an accepted step
 abbrev pub done_of : Setting → Step → List Step → Done
 done_of setting (AskEnq t) before = Ticket (tickets before)
 done_of setting (AskDeq t) before = Ticket (tickets before)
@@ -256,12 +256,12 @@ done_of setting (Ret t) before = Ticket (tickets before)
 done_of setting (Drain t k) before = Drained (min k (in_ring t before))
 done_of setting (Close t) before = CloseDone
 
--- the answer that goes with a refusal, or with none
+-- the result with a refusal, or with none
 abbrev pub reply : Option StepRefused → Done → Result Done StepRefused
 reply None done = Ok done
 reply (Some refused) done = Err refused
 
--- what an attempt is answered after a schedule
+-- the result of an attempt after a schedule
 abbrev pub answer_to : Setting → List Attempt → Attempt → Result Done StepRefused
 answer_to setting schedule attempt =
     let before = accepted setting schedule in

@@ -1,9 +1,9 @@
--- What contracts see of a machine.
+-- A machine as contracts see it.
 use Rattle.std.specs.Prelude.{ℕ, Bool, List, Option}
 use Rattle.event_records.specs.declared.event.Event.{Event}
 use Rattle.recorder_core.specs.declared.pending.Pending.{Pending}
 
--- one thread: how many operations it asked, the one that has no return yet, and its events where they are now
+-- one thread: the number of operations asked, the one without a return yet, and its events where they are now
 pub record ThreadView : Type 0 where
   pub closed : Bool
   pub asked : ℕ
@@ -12,7 +12,7 @@ pub record ThreadView : Type 0 where
   pub ring : List Event
   pub collected : List Event
 
--- the whole machine; asked counts the operations of all threads
+-- the whole machine; `asked` counts the operations of all threads
 pub record MachineView : Type 0 where
   pub capacity : ℕ
   pub threads : List ThreadView

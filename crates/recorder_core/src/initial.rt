@@ -7,10 +7,10 @@ use event_records::{LEAST_INITIAL_NAME, MAX_INITIAL};
 use std::alloc::{AllocError, Global};
 use std::collections::BTreeSet;
 
-/// Whether a queue may hold these values before a run: they are distinct, at most 100,000, and each is 2^38 or
-/// greater, above the names of the threads' own values.
+/// Returns whether a queue may hold these values before a run: they are distinct, at most 100,000, and each is 2^38
+/// or greater, above the names of the threads' own values.
 ///
-/// Time O(n log n) for n values, and memory for them.
+/// Takes O(n log n) time for n values, and memory for them.
 pub fn are_initial_names(alloc: Global, values: &[u64]) -> Result<bool, AllocError>
     ensures { IfOk result (λ yes. IsTrue yes ↔ AreInitialNames values.now) }
 {
@@ -20,14 +20,14 @@ pub fn are_initial_names(alloc: Global, values: &[u64]) -> Result<bool, AllocErr
     are_distinct(alloc, values)
 }
 
-/// Whether no value is a name of a thread's own values.
+/// Returns whether no value is a name of a thread's own values.
 fn are_above_names(values: &[u64]) -> bool
     ensures { IsTrue result ↔ All (λ v. LEAST_INITIAL_NAME ≤ v) values.now }
 {
     values.iter().all(|value| *value >= LEAST_INITIAL_NAME)
 }
 
-/// Whether no two of the values are the same.
+/// Returns whether no two of the values are equal.
 fn are_distinct(alloc: Global, values: &[u64]) -> Result<bool, AllocError>
     ensures { IfOk result (λ yes. IsTrue yes ↔ AllPairs (λ v w. v ≢ w) values.now) }
 {

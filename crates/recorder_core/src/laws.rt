@@ -1,5 +1,5 @@
-//! What holds of every schedule, whatever steps are tried in whatever order. These functions do nothing; each ensures
-//! a law, which `specs/Laws.antt` and `specs/Replay.antt` define.
+//! Laws of every schedule, whatever steps are tried in whatever order. These functions do nothing when they run. Each
+//! ensures a law, stated in words of `specs/Laws.antt` and `specs/Replay.antt`.
 ghost use Rattle.std.specs.Prelude.{◌≡◌, ℕ, ◌<◌, ◌≤◌, ◌++◌, ◌∷◌, List, length, Contains, Err, None, Some, [], ◌↔◌};
 ghost use Rattle.event_records.specs.declared.limits.TheConstants.{MAX_EVENTS};
 ghost use Rattle.event_records.specs.declared.event.Event.{Event};
@@ -26,7 +26,7 @@ pub fn collected_is_a_prefix()
         → IsPrefix (collected_in setting schedule t) (events_in setting schedule t) }
 {}
 
-/// Proves that it is all of them if the schedule is done.
+/// Proves that a done schedule collects all events of each thread.
 pub fn done_collects_all()
     ensures { (setting : Setting) (schedule : List Attempt) → IsDone setting schedule
         → (t : ℕ) → t < setting.threads → collected_in setting schedule t ≡ events_in setting schedule t }
@@ -39,9 +39,9 @@ pub fn nothing_after_close()
         → NeedsOpenThread attempt.step → answer_to setting (later ++ close ∷ before) attempt ≡ Err Closed }
 {}
 
-/// Proves that one operation precedes another in the collected history if and only if its return step stands before
-/// the other's ask; and more: of any two collected events the one with the lower ticket is the one whose step stands
-/// first.
+/// Proves that one operation precedes another in the collected history if and only if its return step comes before
+/// the other's ask. Also proves that of any two collected events, the one with the lower ticket is the one whose step
+/// comes first.
 pub fn precedence_as_ticketed()
     ensures operations { (setting : Setting) (schedule : List Attempt) (merged : List Event) (x y : Operation)
         → IsMerged (collected_lists setting schedule) merged → Contains (operations_of merged) x → Contains (operations_of merged) y
@@ -51,22 +51,22 @@ pub fn precedence_as_ticketed()
         → (first.ticket < second.ticket) ↔ StandsBefore setting schedule first second }
 {}
 
-/// Proves that the sequential specification accepts the effects in order, from the initial values on, and leaves the
-/// schedule's queue.
+/// Proves that the sequential specification accepts the effects in order, from the initial values on, and ends with
+/// the schedule's queue.
 pub fn effects_are_accepted()
     ensures { (setting : Setting) (schedule : List Attempt)
         → accept_all setting.initial (effect_kinds setting (accepted setting schedule)) ≡ Some (queue setting (accepted setting schedule)) }
 {}
 
-/// Proves that recorded lists replay: for every capacity of the rings, and whatever the queue holds at first, some
-/// schedule without effects, each of whose steps is accepted, is done and collects them.
+/// Proves that recorded lists replay: for every capacity of the rings, and any initial values of the queue, there is
+/// a schedule without effects that is done and collects them, and each of whose steps is accepted.
 pub fn recorded_lists_replay()
     ensures { (lists : List (List Event)) (ring : ℕ) (initial : List ℕ)
         → AreRecorded lists → MIN_RING ≤ ring → ring ≤ MAX_RING → Replays ring initial lists }
 {}
 
-/// Proves that recorded lists merge to a complete history, of no more events than a history may have. No call
-/// enqueues an initial value.
+/// Proves that recorded lists merge to a complete history, of no more events than a history may have, and that no
+/// call enqueues an initial value.
 pub fn recorded_lists_are_complete()
     ensures complete { (lists : List (List Event)) (merged : List Event)
         → AreRecorded lists → IsMerged lists merged → IsCompleteHistory merged }
@@ -76,7 +76,8 @@ pub fn recorded_lists_are_complete()
         → AreRecorded lists → IsMerged lists merged → length merged ≤ MAX_EVENTS }
 {}
 
-/// Proves that the lists which a done schedule collects do so too. It has no more events than a history may have.
+/// Proves that the lists which a done schedule collects merge to a complete history, of no more events than a history
+/// may have.
 pub fn done_schedules_are_complete()
     ensures complete { (setting : Setting) (schedule : List Attempt) (merged : List Event)
         → setting.threads ≤ MAX_THREADS → IsDone setting schedule → IsMerged (collected_lists setting schedule) merged
@@ -89,8 +90,8 @@ pub fn done_schedules_are_complete()
         → length merged ≤ MAX_EVENTS }
 {}
 
-/// Proves that the order of the effects of an honest schedule that is done is a linearization of the collected
-/// history from the initial values, which is therefore linearizable.
+/// Proves that for an honest schedule that is done, the order of the effects is a linearization of the collected
+/// history from the initial values. So this history is linearizable.
 pub fn honest_schedules_are_legal()
     ensures { (setting : Setting) (schedule : List Attempt) (merged : List Event)
         → setting.threads ≤ MAX_THREADS → IsHonest setting schedule → IsDone setting schedule

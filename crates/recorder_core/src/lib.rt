@@ -1,9 +1,9 @@
-//! The recorder of a run as a pure machine: what it holds after any list of its atomic steps, in any order.
+//! The recorder of a run as a pure machine: its state after any list of its atomic steps, in any order.
 //!
 //! The steps are those of the threads of a recorded run: tickets are drawn, events pushed and drained, rings closed,
 //! and the tested queue takes effect or answers. A [`Machine`] takes one step at a time. `specs/Schedule.antt`
-//! defines what a list of steps means, without rings and without states, and the functions of `laws` say what holds
-//! of every list.
+//! defines what a list of steps means, without rings and without states, and the functions of `laws` prove facts
+//! about every list.
 #![tactic(auto)]
 
 mod initial;

@@ -1,4 +1,4 @@
-//! The machine.
+//! The machine of a recorder.
 ghost use Rattle.std.specs.Prelude.{◌≡◌, ℕ, ◌+◌, ◌≤◌, ◌<◌, ◌↔◌, IfOk, OnOk, OnErr, IsTrue, [], ◌∷◌, List, Some, length};
 ghost use Rattle.std.specs.List.{list_all};
 ghost use Rattle.recorder_core.specs.declared.step.Step.TheVariants.{Push, Effect, Say, Ret, Drain, Close};
@@ -19,11 +19,11 @@ use std::alloc::{AllocError, Global};
 use std::collections::VecDeque;
 use std::marker::Model;
 
-/// What the recorder holds after a list of steps.
+/// The state of a recorder after a list of steps.
 ///
-/// For each thread: whether it is closed, how many operations it asked, the pending one, the held event, the events
-/// in its ring and those collected. For all together: the next ticket, and the machine's queue, a list of values, its
-/// front first. The memory is in proportion to what is held.
+/// For each thread it holds whether the thread is closed, the number of operations asked, the pending one, the held
+/// event, the events in its ring and those collected. For all threads together it holds the next ticket and the
+/// queue, a list of values, front first. The memory is in proportion to what is held.
 #[derive(Drop)]
 pub struct Machine {
     capacity: usize,
@@ -62,8 +62,8 @@ impl Machine {
     ghost use Rattle.recorder_core.specs.Inner.After.{TakesStep};
     ghost use Rattle.recorder_core.specs.Laws.{collected_in, IsDone};
 
-    /// Makes a machine that nothing has happened to, with threads 0, 1, 2 and so on, each with a ring of this
-    /// capacity. Its queue is empty.
+    /// Makes a machine before its first step, with an empty queue and threads 0, 1, 2 and so on, each with a ring of
+    /// this capacity.
     ///
     /// Rings take memory as they are filled, and not here.
     pub fn new(alloc: Global, threads: usize, ring: usize) -> Result<Machine, AllocError>
@@ -74,7 +74,7 @@ impl Machine {
         Machine::with_initial(alloc, threads, ring, Vec::new(alloc))
     }
 
-    /// Makes a machine whose queue holds these values, front first. They lie above the names of the threads' own
+    /// Makes a machine whose queue holds these values, front first. They are above the names of the threads' own
     /// values, so no operation enqueues one of them; [`are_initial_names`](crate::are_initial_names) checks this.
     pub fn with_initial(
         alloc: Global,
@@ -102,14 +102,14 @@ impl Machine {
 
     /// Takes one step. A refused step changes nothing.
     ///
-    /// A drain takes time in proportion to what it collects, and every other step amortised constant time.
+    /// A drain takes time in proportion to the events that it collects, every other step amortised constant time.
     pub fn step(&mut self, step: Step) -> Result<Done, StepRefused>
-        // Whichever schedule left the machine, the answer is what that schedule says. `Memory` comes from the answer:
-        // an attempt's growth is refused if and only if the answer says so.
+        // Whichever schedule led to this machine, the result is what that schedule says. `Memory` depends on the
+        // result: growth fails at an attempt if and only if the result says so.
         ensures answered { (setting : Setting) (schedule : List Attempt) → IsAfter setting self.old schedule
             → result ≡ answer_to setting schedule (attempt_at step result) }
 
-        // The machine is then what that schedule leaves with this attempt added.
+        // The machine is then as after that schedule with this attempt added.
         ensures goes_on { (setting : Setting) (schedule : List Attempt) → IsAfter setting self.old schedule
             → IsAfter setting self.new (attempt_at step result ∷ schedule) }
         ensures refused { OnErr result (self.new ≡ self.old) }
@@ -233,7 +233,7 @@ impl Machine {
         Ok(Done::Closed)
     }
 
-    /// Returns what was collected of a thread, oldest first.
+    /// Returns the collected events of a thread, oldest first.
     pub fn collected(&self, number: u8) -> &[Event]
         requires { number < length self.now.threads }
         ensures { (setting : Setting) (schedule : List Attempt) → IsAfter setting self.now schedule
@@ -242,7 +242,7 @@ impl Machine {
         self.threads[usize::from(number)].collected()
     }
 
-    /// Whether all threads are closed and all rings are empty. It looks at each thread once.
+    /// Returns whether all threads are closed and all rings are empty. Looks at each thread once.
     pub fn done(&self) -> bool
         ensures { (setting : Setting) (schedule : List Attempt) → IsAfter setting self.now schedule
             → IsTrue result ↔ IsDone setting schedule }
@@ -251,14 +251,14 @@ impl Machine {
     }
 }
 
-/// Whether nothing more can come from any of these threads.
+/// Returns whether no more events can come from any of these threads.
 fn all_done(threads: &[Thread]) -> bool
     ensures { result ≡ list_all is_thread_done threads.now }
 {
     threads.iter().all(|thread| thread.is_done())
 }
 
-/// Whether a thread that asked this many operations, of this many in all, may ask no more.
+/// Returns whether a thread that asked `asked` operations, of `all` in the machine, may ask no more.
 fn is_limited(asked: u64, all: u64) -> bool
     ensures { result ≡ is_limited asked all }
 {
@@ -276,7 +276,7 @@ fn take_ticket(next: &mut u64) -> u64
     ticket
 }
 
-/// Returns what a thread asks with this kind of operation, after this many others.
+/// Returns the request of an operation of this kind, the thread's operation with this number.
 fn request_of(kind: Kind, thread: u8, number: u64) -> Request
     requires { number < MAX_THREAD_OPERATIONS }
     ensures { result ≡ asked_for kind thread number }
@@ -309,7 +309,7 @@ fn return_with(answer: Answer) -> What
     }
 }
 
-/// Returns the queue's answer, and leaves in the queue what the operation leaves.
+/// Applies the request to the queue, and returns the queue's answer.
 fn take_effect(queue: &mut VecDeque<u64>, request: Request) -> Result<Answer, AllocError>
     ensures ok { IfOk result (λ answer. answer ≡ queue_answer request queue.old.items) }
     ensures after { OnOk result (queue.new.items ≡ queue_after request queue.old.items) }
@@ -327,7 +327,7 @@ fn take_effect(queue: &mut VecDeque<u64>, request: Request) -> Result<Answer, Al
     }
 }
 
-/// Whether an answer is of another kind than its request.
+/// Returns whether an answer is of another kind than its request.
 fn is_of_other_kind(answer: Answer, request: Request) -> bool
     ensures { result ≡ is_wrong answer (Some request) }
 {

@@ -1,15 +1,15 @@
 use event_records::Answer;
 
-/// What an operation asks of the queue.
+/// A request to the queue.
 #[derive(Clone, Copy)]
 pub enum Request {
-    /// To take this value.
+    /// To enqueue this value.
     Enqueue(u64),
-    /// To give its first value.
+    /// To dequeue the first value.
     Dequeue,
 }
 
-/// An operation that has no return yet.
+/// An operation without a return yet.
 #[derive(Clone, Copy)]
 pub struct Pending {
     pub request: Request,

@@ -15,9 +15,9 @@ pub enum Step {
     AskDeq(u8),
     /// Appends the held event to the ring.
     Push(u8),
-    /// The pending operation takes effect on the machine's queue, and has its answer.
+    /// Applies the pending operation to the machine's queue, which gives its answer.
     Effect(u8),
-    /// The pending operation gets this answer; the machine's queue stays as it is.
+    /// Gives the pending operation this answer, and leaves the machine's queue.
     Say(u8, Answer),
     /// Draws a ticket and ends the pending operation; its return event is held.
     Ret(u8),
@@ -27,7 +27,7 @@ pub enum Step {
     Close(u8),
 }
 
-/// What a step did.
+/// The result of an accepted step.
 #[derive(Clone, Copy, Debug, PartialEq, Eq)]
 pub enum Done {
     /// An ask or a return drew this ticket.
@@ -42,14 +42,14 @@ pub enum Done {
     Closed,
 }
 
-/// Why a step is refused: of the reasons that apply to it, the one that stands first here.
+/// The reason why a step is refused. If several apply, it is the one that comes first here.
 #[derive(Clone, Copy, Debug, PartialEq, Eq)]
 pub enum StepRefused {
     /// The machine has no thread of this number.
     NoThread,
     /// The thread is closed.
     Closed,
-    /// The thread holds an event that is not pushed yet.
+    /// The thread holds an event that isn't pushed yet.
     Held,
     /// The thread holds no event to push.
     NothingHeld,
@@ -61,18 +61,18 @@ pub enum StepRefused {
     NotPending,
     /// The pending operation has no answer to return with.
     NoAnswer,
-    /// The pending operation has its answer.
+    /// The pending operation has an answer already.
     AnswerTaken,
-    /// An enqueue gets an answer of a dequeue, or a dequeue one of an enqueue.
+    /// The answer is of the other kind than the pending operation.
     WrongAnswer,
     /// The thread has asked 100,000 operations, or all threads together 1,000,000.
     Limit,
-    /// A growth was refused: of a ring by a push, of the queue by an effect, of the collected events by a drain.
+    /// Memory ran out: for a ring by a push, for the queue by an effect, for the collected events by a drain.
     Memory,
 }
 
 impl StepRefused {
-    /// Returns its name, as it is printed.
+    /// Returns the name of the reason, as it is printed.
     pub fn name(self) -> &'static str
         ensures short { length result.now ≤ 20 }
         ensures name { result.now ≡ name_of self }

@@ -40,7 +40,7 @@ impl Model for Thread {
 }
 
 impl Thread {
-    /// Makes a thread to which nothing has happened.
+    /// Makes a thread before its first step.
     pub(crate) fn new(alloc: Global) -> Thread
         ensures { result ≡ record { closed = false; asked = 0; pending = None; held = None; ring = []; collected = [] } }
     {
@@ -54,7 +54,7 @@ impl Thread {
         }
     }
 
-    /// Returns how many operations were asked.
+    /// Returns the number of operations asked.
     pub(crate) fn asked(&self) -> u64
         ensures { result ≡ self.now.asked }
     {
@@ -67,7 +67,7 @@ impl Thread {
         self.collected.as_slice()
     }
 
-    /// Refuses if the thread is closed.
+    /// Fails if the thread is closed.
     fn open(&self) -> Result<(), StepRefused>
         ensures { result_err result ≡ find (seen self.now none_other) (Closed ∷ []) }
     {
@@ -77,7 +77,7 @@ impl Thread {
         Ok(())
     }
 
-    /// Refuses if the thread holds an event.
+    /// Fails if the thread holds an event.
     fn empty_handed(&self) -> Result<(), StepRefused>
         ensures { result_err result ≡ find (seen self.now none_other) (Held ∷ []) }
     {
@@ -87,14 +87,14 @@ impl Thread {
         Ok(())
     }
 
-    /// Refuses if the thread may neither draw a ticket nor be closed.
+    /// Fails unless the thread is open and holds no event.
     fn free(&self) -> Result<(), StepRefused>
         ensures { result_err result ≡ find (seen self.now none_other) (Closed ∷ Held ∷ []) }
     {
         self.open().and(self.empty_handed())
     }
 
-    /// Refuses if the thread may neither begin an operation nor be closed.
+    /// Fails unless the thread may begin an operation or be closed.
     pub(crate) fn idle(&self) -> Result<(), StepRefused>
         ensures { result_err result ≡ find (seen self.now none_other) (Closed ∷ Held ∷ PendingRefused ∷ []) }
     {
@@ -143,7 +143,7 @@ impl Thread {
         Ok(())
     }
 
-    /// Returns the request that waits for its answer.
+    /// Returns the request that has no answer yet.
     pub(crate) fn unanswered(&self) -> Result<Request, StepRefused>
         ensures refused { result_err result ≡ find (seen self.now none_other) (Closed ∷ NotPending ∷ AnswerTaken ∷ []) }
         ensures ok { IfOk result (λ request. self.now.pending ≡ Some (record { request = request; answer = None })) }
@@ -211,7 +211,7 @@ impl Thread {
         Ok(())
     }
 
-    /// Whether nothing more can come from this thread.
+    /// Returns whether no more events can come from this thread.
     pub(crate) fn is_done(&self) -> bool
         ensures { result ≡ is_thread_done self.now }
     {

@@ -1,2 +1,2 @@
--- One file. Listing: lists that are made by number, as the collected lists of the threads are.
+-- One file. Listing: lists made by number, as the collected lists of the threads are.
 pub mod Listing

@@ -1,4 +1,4 @@
-//! A schedule of the recorder's atomic steps, played on the pure machine of `recorder_core`.
+//! Plays a schedule of the recorder's atomic steps on the pure machine of `recorder_core`.
 #![tactic(auto)]
 
 mod playing;

@@ -12,7 +12,7 @@ use event_records::{Event, Lists, OwnedSlice};
 use recorder_core::{Machine, Step, StepRefused};
 use std::alloc::{AllocError, Global};
 
-/// A refused step: its place in the schedule, from 1, and why it is refused.
+/// A refused step: its place in the schedule, from 1, and the reason.
 #[derive(Clone, Copy, Debug, PartialEq, Eq)]
 pub struct Rejection {
     pub step: u64,
@@ -22,7 +22,7 @@ pub struct Rejection {
 /// The refused steps of a schedule in order, seen as a list.
 pub type Rejections = OwnedSlice<Rejection>;
 
-/// What the machine is after the last step of a schedule.
+/// The state of the machine after the last step of a schedule.
 #[derive(Drop)]
 pub enum Ending {
     /// Some thread isn't closed, or some ring isn't empty.
@@ -31,18 +31,19 @@ pub enum Ending {
     Done(Lists),
 }
 
-/// What a schedule did.
+/// The result of a schedule.
 #[derive(Drop)]
 pub struct Simulation {
     pub rejections: Rejections,
     pub ending: Ending,
 }
 
-/// Plays a schedule: its steps one after another, on a new machine with this many threads, rings of this capacity and
-/// an empty queue.
+/// Plays a schedule: takes its steps one after another, on a new machine with this many threads, rings of this
+/// capacity and an empty queue.
 ///
 /// A refused step changes nothing, and the next one is tried. The only error is out of memory, also in a step;
-/// without it no growth was refused. Time and memory grow in proportion to the steps and to what they collect.
+/// without it no step ran out of memory. Time and memory grow in proportion to the steps and to the events that they
+/// collect.
 pub fn simulate(
     alloc: Global,
     threads: usize,
@@ -77,7 +78,7 @@ fn take_all(alloc: Global, machine: &mut Machine, steps: &[Step]) -> Result<Reje
     Ok(Rejections::from_vec(rejections))
 }
 
-/// Takes one step, and returns why it is refused, if it is.
+/// Takes one step, and returns the reason if it is refused.
 fn refusal_of(machine: &mut Machine, step: Step) -> Result<Option<StepRefused>, AllocError>
     ensures refused { IfOk result (λ refused. (setting : Setting) (schedule : List Attempt) → IsAfter setting machine.old schedule
         → refused ≡ result_err (answer_to setting schedule (tried step))) }
@@ -92,7 +93,7 @@ fn refusal_of(machine: &mut Machine, step: Step) -> Result<Option<StepRefused>, 
     }
 }
 
-/// Returns what the machine is now.
+/// Returns the state of the machine.
 fn ending_of(alloc: Global, machine: &Machine, threads: usize) -> Result<Ending, AllocError>
     requires threads { length machine.now.threads ≡ threads }
     requires few { threads ≤ MAX_THREADS }
@@ -106,7 +107,7 @@ fn ending_of(alloc: Global, machine: &Machine, threads: usize) -> Result<Ending,
     }
 }
 
-/// Returns what was collected of each thread.
+/// Returns the collected events of each thread.
 fn collected(alloc: Global, machine: &Machine, threads: usize) -> Result<Lists, AllocError>
     requires threads { length machine.now.threads ≡ threads }
     requires few { threads ≤ MAX_THREADS }

@@ -1,4 +1,4 @@
--- Rows and lanes stand apart, by the laws of the scene.
+-- Rows and lanes are apart, by the laws of the scene.
 use Rattle.svg_picture.proofs.Common.{◌*◌, ◌+◌, ◌<◌, ◌↔◌, arith, inl, inr, mul-le-mul_left, page_of, thread_x}
 use Rattle.std.proofs.lemmas.Bool.{cases_lt, cond_both}
 use Rattle.std.proofs.lemmas.List.Sums.{count_by-le-length}
@@ -12,11 +12,11 @@ use Rattle.drawing.specs.Scene.{scene_of, rows_of, row_number, stands_above}
 use Rattle.svg_picture.specs.Layout.{bottom, call_y, ret_y}
 use Rattle.svg_picture.specs.Laws.{RowsAreApart, BarsOverlapInTime, LanesAreApart}
 
--- rows stand apart
+-- rows are apart
 pub rows_are_apart : RowsAreApart
 rows_are_apart page other row among above = let rises = rows_rise page.scene.rows other row among above in omega arith
 
--- bars share a height if and only if operations overlap
+-- bars share a height if and only if their operations overlap
 pub bars_overlap_in_time : BarsOverlapInTime
 unfolding scene_of row_number bottom
 bars_overlap_in_time history claimed drawn added_from x y in_x drawn_too seen =
@@ -38,7 +38,7 @@ bars_overlap_in_time history claimed drawn added_from x y in_x drawn_too seen =
       ],
     ))
 
--- lanes of different threads stand apart
+-- lanes of different threads are apart
 pub lanes_are_apart : LanesAreApart
 unfolding thread_x
 lanes_are_apart page thread higher among less =

@@ -1,8 +1,8 @@
--- Texts to which pieces are added in turn.
+-- Texts that grow by pieces.
 use Rattle.svg_picture.proofs.Common.{[], ◌++◌, ◌∷◌, ◌≡◌, append-nil, append_assoc, concat, Err, List, Ok, OnOk, ℕ}
 use Rattle.std.specs.declared.result.Result.{Result}
 
--- a tag, what stands after it, and another tag
+-- a tag, its content, and another tag
 pub around : {A T E : Type 0} (r : Result T E) (old one two last a b c : List A) → one ≡ old ++ a → two ≡ one ++ b → OnOk r (last ≡ two ++ c)
     → OnOk r (last ≡ old ++ (a ++ (b ++ c)))
 around (Ok x) old one two last a b c h k l = rw (l, k, h) (simp append_assoc)

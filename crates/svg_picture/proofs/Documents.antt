@@ -17,7 +17,7 @@ made_plain (b ∷ bytes) = ap₂ ◌&&◌ (byte_plain b) (made_plain bytes)
 
 -- ---- tags
 
--- each tag is one
+-- each tag is the tag of an element
 tag_is : (tag : Tag) → IsTag (tag_name tag) (tag_attributes tag)
 tag_is Title = record { named = refl; distinct = refl; each = search (rules, made_plain) }
 tag_is tag = record { named = refl; distinct = refl; each = search (rules, made_plain) }

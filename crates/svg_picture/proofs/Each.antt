@@ -10,5 +10,5 @@ pub group_more : (cs : List Content) (a : Content) → text_of (group (cs ++ a �
 group_more [] a = append-nil (text_of a)
 group_more (b ∷ cs) a = ap (λ (t : List ℕ). text_of b ++ t) (group_more cs a) ∙ sym (append_assoc (text_of b) (text_of (group cs)) (text_of a))
 
--- what a loop over elements, or over these with their places, adds
+-- one more element of a loop, with its place
 pub ruleset steps = (enumerate_at_read, take_at_read, group_more, append_assoc, append-nil, flat_map-append, map-append)

@@ -12,7 +12,7 @@ text_at char class x y bytes = Element (Text x y (char * length bytes) class) (W
 unfoldable pub rect : List ℕ → ℕ → ℕ → ℕ → ℕ → ℕ → Content
 rect class round x y wide high = Element (Rect x y wide high round class) (Words [])
 
--- a rectangle of a class without its lower edge: it ends below a window that has room for its other edges
+-- a rectangle of a class without its lower edge: the edge is below a window that has room for the other edges
 unfoldable pub open_rect : List ℕ → ℕ → ℕ → ℕ → ℕ → ℕ → Content
 open_rect class round x y wide high = Element (Window (x + wide + 6) (y + high)) (rect class round x y wide (high + 20))
 
@@ -20,7 +20,7 @@ open_rect class round x y wide high = Element (Window (x + wide + 6) (y + high))
 unfoldable pub stroke : List ℕ → ℕ → ℕ → ℕ → ℕ → Content
 stroke class x1 y1 x2 y2 = Element (Line x1 y1 x2 y2 class) (Words [])
 
--- a line of words; nothing of an empty one
+-- a line of words; nothing for an empty one
 abbrev pub line_at : ℕ → List ℕ → ℕ → List ℕ → Content
 line_at char class y [] = Nothing
 line_at char class y (b ∷ bytes) = text_at char class 6 y (b ∷ bytes)
@@ -34,7 +34,7 @@ lines_from char class y (line ∷ lines) = Then (line_at char class y line) (lin
 unfoldable pub lines_at : ℕ → List ℕ → ℕ → List ℕ → Content
 lines_at char class y text = lines_from char class y (parts text)
 
--- a sample of a bar with its word, and what it means
+-- a sample of a bar with its word and its meaning
 unfoldable pub sample : ℕ → ℕ → List ℕ → ℕ → List ℕ → Content
 sample x y class round meaning =
     group (rect class round x y 47 18 ∷ text_at 7 (codes "label") (x + 6) (y + 13) class ∷ text_at 7 (codes "dim") (x + 53) (y + 13) meaning ∷ [])

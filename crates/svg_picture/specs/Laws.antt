@@ -1,4 +1,4 @@
--- What holds of SVG pictures.
+-- Laws of SVG pictures.
 use Rattle.std.specs.Prelude.{◌≡◌, ℕ, ◌+◌, ◌<◌, ◌≤◌, ◌↔◌, ◌&&◌, ◌||◌, not, Option}
 use Rattle.std.specs.Prelude.{nat_le, ⊤, Bool, true, false, List, [], ◌∷◌, ◌++◌, map, codes, Contains}
 use Rattle.std.specs.List.{list_all, list_any}
@@ -33,7 +33,7 @@ abbrev pub is_name : List ℕ → Bool
 is_name [] = not true
 is_name (b ∷ bytes) = is_letter b && list_all is_name_byte bytes
 
--- no name stands twice
+-- no name is in the list twice
 abbrev pub are_distinct : List (List ℕ) → Bool
 are_distinct [] = true
 are_distinct (name ∷ names) = not (list_any (bytes_eq name) names) && are_distinct names
@@ -43,13 +43,14 @@ abbrev pub AreAttributes : List Named → Type 0
 AreAttributes [] = ⊤
 AreAttributes (a ∷ attributes) = ((is_name a.name ≡ true) × (are_plain a.value ≡ true)) × AreAttributes attributes
 
--- the name of an element, and attributes of different names
+-- the tag of an element: its name, and attributes with different names
 pub record IsTag (name : List ℕ) (attributes : List Named) : Type 0 where
   pub named : is_name name ≡ true
   pub distinct : are_distinct (map (λ a. a.name) attributes) ≡ true
   pub each : AreAttributes attributes
 
--- what may stand in an element: nothing, bytes that stand for themselves, an element that its end tag closes, or one after another
+-- the content of an element: nothing, bytes that stand for themselves, an element that its end tag closes, or one
+-- after another
 pub data IsMarkup : List ℕ → Type 0 where
   nothing : IsMarkup []
   plain : (bytes : List ℕ) → are_plain bytes ≡ true → IsMarkup bytes
@@ -57,7 +58,7 @@ pub data IsMarkup : List ℕ → Type 0 where
       → IsMarkup (start_tag name attributes ++ (inner ++ end_tag name))
   both : (first second : List ℕ) → IsMarkup first → IsMarkup second → IsMarkup (first ++ second)
 
--- what it is, and one element `svg` around the rest
+-- a document: its declaration, and one element `svg` around the rest
 pub record IsDocument (text : List ℕ) : Type 0 where
   pub attributes : List Named
   pub inner : List ℕ
@@ -69,15 +70,15 @@ pub record IsDocument (text : List ℕ) : Type 0 where
 abbrev pub PicturesAreWellFormed : Type 0
 PicturesAreWellFormed = (scene : SceneView) → IsDocument (svg_picture scene)
 
--- ---- time
+-- ---- the order of time
 
--- a row ends where those below it begin, or above
+-- a row ends at or above the upper edge of those below it
 abbrev pub RowsAreApart : Type 0
 RowsAreApart =
     (page : Page) (other row : Row) → Contains page.scene.rows other → stands_above other row ≡ true → row_y page other + 20 ≤ row_y page row
 
--- a bar ends above another begins if and only if its operation precedes the other, whose call was not added: so bars share a height if and
--- only if operations overlap
+-- a bar ends above another if and only if its operation precedes the other, whose call was not added: so bars share a
+-- height if and only if their operations overlap
 abbrev pub BarsOverlapInTime : Type 0
 BarsOverlapInTime =
     (history : HistoryView) (claimed : Claimed) (drawn : List Operation) (added_from : Option ℕ) (x y : Operation)

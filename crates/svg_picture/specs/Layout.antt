@@ -1,4 +1,4 @@
--- Where things stand in an SVG picture, in pixels: time runs down, threads stand side by side.
+-- The layout of an SVG picture, in pixels: time runs down, threads are side by side.
 use Rattle.std.specs.Prelude.{ℕ, ◌+◌, ◌*◌, max, if◌then◌else◌, List, [], ◌∷◌, length, count_by}
 use Rattle.std.specs.List.{slice_split}
 use Rattle.text_lines.specs.Lines.{is_line_feed}
@@ -15,55 +15,55 @@ pub record Page : Type 0 where
   pub measures : Measures
   pub scene : SceneView
 
--- the page that a value of the program stands for
+-- the page of a value of the program
 abbrev pub page_on : Sheet → Page
 page_on sheet = record { measures = sheet.measures; scene = scene_on sheet.scene.now }
 
 -- ---- from left to right
 
--- where the tickets end, with a gap
+-- the right edge of the tickets, with a gap
 abbrev pub shown : Measures → ℕ
 shown m = 18 + 7 * m.ticket
 
--- where band i stands
+-- the left edge of band i
 abbrev pub band_x : Measures → ℕ → ℕ
 band_x m i = shown m + 36 * i
 
--- where the lanes begin: right of the order of a `YES`, or of the bands of a `NO`
+-- the left edge of the first lane, to the right of the order of a `YES`, or of the bands of a `NO`
 abbrev pub left : Measures → ℕ
 left m = shown m + 12 + (if m.is_yes then 7 * (m.number + 1 + m.label) else 36 * m.heads)
 
--- how far from the beginning of its lane the number of an operation stands, right of its label
+-- the distance of an operation's number from the left edge of its lane; it is to the right of the label
 abbrev pub number_x : Measures → ℕ
 number_x m = 15 + 7 * m.label
 
--- a bar has room for the longest label and for a number
+-- the width of a bar: it has room for the longest label and for a number
 abbrev pub bar_width : Measures → ℕ
 bar_width m = 28 + 7 * (m.label + m.number)
 
--- a lane: a bar with an edge on both sides
+-- the width of a lane: a bar with an edge on both sides
 abbrev pub lane_width : Measures → ℕ
 lane_width m = bar_width m + 6
 
--- where a lane begins, with this many lanes before it
+-- the left edge of a lane, with this many lanes before it
 abbrev pub lane_x : Measures → ℕ → ℕ
 lane_x m before = left m + lane_width m * before
 
--- where the lane of a thread begins: after those of lower threads
+-- the left edge of a thread's lane, after those of lower threads
 unfoldable pub thread_x : Page → ℕ → ℕ
 thread_x page thread = lane_x page.measures (lanes_before page.scene.threads thread)
 
--- wide enough for the fixed words, for the caption, for the lanes, and for the heads of the bands
+-- the width of the picture: of the fixed words, the caption, the lanes, and the heads of the bands
 unfoldable pub width : Measures → ℕ
 width m = 6 + max (max 582 (6 + 8 * m.caption)) (max (lane_x m m.lanes + 12) (band_x m m.heads + 7 * m.head))
 
 -- ---- from top to bottom
 
--- where the samples of bars stand: below the headline and the caption
+-- the upper edge of the samples of bars, below the headline and the caption
 abbrev pub legend_y : Measures → ℕ
 legend_y m = 40 + 20 * m.captions
 
--- where the first row begins, below the legend, the heads of the bands and the names of the lanes
+-- the upper edge of the first row, below the legend, the heads of the bands and the names of the lanes
 unfoldable pub top : Measures → ℕ
 top m = legend_y m + 32 + 20 * (m.legend + m.heads + 1)
 
@@ -79,15 +79,15 @@ call_y page ticket = row_y page (Ticket ticket) + 3
 abbrev pub ret_y : Page → ℕ → ℕ
 ret_y page ticket = row_y page (Ticket ticket) + 17
 
--- where the last row ends, which has the word `end`
+-- the lower edge of the last row, which has the word `end`
 unfoldable pub bottom : Measures → ℕ
 bottom m = top m + 20 * (m.rows + 1)
 
--- the lower edge of the bar of an operation; that of a pending one goes on to the end of its lane
+-- the lower edge of an operation's bar; that of a pending one is at the end of its lane
 abbrev pub bar_end : Page → Operation → ℕ
 bar_end page o = if is_pending page.scene.added_from o then bottom page.measures else ret_y page o.ret
 
--- below the last row the threads are named again
+-- the height of the picture: below the last row the threads are named again
 abbrev pub height : Measures → ℕ
 height m = bottom m + 26
 
@@ -97,11 +97,11 @@ height m = bottom m + 26
 abbrev pub parts : List ℕ → List (List ℕ)
 parts text = slice_split is_line_feed text
 
--- how many lines a text has
+-- the number of lines of a text
 abbrev pub line_count : List ℕ → ℕ
 line_count text = count_by is_line_feed text
 
--- the length of the longest
+-- the length of the longest line
 abbrev pub longest : List (List ℕ) → ℕ
 longest [] = 0
 longest (line ∷ lines) = max (length line) (longest lines)

@@ -9,8 +9,8 @@ pub record Named : Type 0 where
   pub name : List ℕ
   pub value : List ℕ
 
--- the tag of an element: the picture itself, words on it, a pattern, bars that belong together, a window from the upper left corner of
--- the picture on, which cuts off what goes further, words, a rectangle, a straight line
+-- the tag of an element: the picture itself, words about it, a pattern, bars that belong together, a window from the
+-- picture's upper left corner, which cuts off the rest, words, a rectangle, a straight line
 pub data Tag : Type 0 where
   Svg : (width height : ℕ) (view_box : List ℕ) → Tag
   Title : Tag
@@ -24,7 +24,7 @@ pub data Tag : Type 0 where
   Rect : (x y width height round : ℕ) (class : List ℕ) → Tag
   Line : (x1 y1 x2 y2 : ℕ) (class : List ℕ) → Tag
 
--- what stands in a document: nothing, words, an element around more, or one after another
+-- the content of a document: nothing, words, an element around more, or one after another
 pub data Content : Type 0 where
   Nothing : Content
   Words : List ℕ → Content
@@ -33,15 +33,15 @@ pub data Content : Type 0 where
 
 -- ---- bytes
 
--- the byte stands for itself: it is none of `<`, `>`, `&` and the quote
+-- the byte stands for itself: it isn't `<`, `>`, `&` or the quote
 abbrev pub is_plain : ℕ → Bool
 is_plain b = not (b == 60 || b == 62 || b == 38 || b == 34)
 
--- a byte that stands for itself, and a question mark in place of any other
+-- the byte if it stands for itself, otherwise a question mark
 abbrev pub plain_byte : ℕ → ℕ
 plain_byte b = if is_plain b then b else 63
 
--- words of bytes that stand for themselves
+-- words in bytes that stand for themselves
 abbrev pub plain_words : List ℕ → List ℕ
 plain_words bytes = map plain_byte bytes
 
@@ -105,18 +105,18 @@ start_tag name attributes = codes "<" ++ (name ++ (flat_map attribute_text attri
 abbrev pub end_tag : List ℕ → List ℕ
 end_tag name = codes "</" ++ (name ++ codes ">\n")
 
--- the text of a content: an element's stands between its tags
+-- the text of a content; that of an element is between its tags
 abbrev pub text_of : Content → List ℕ
 text_of Nothing = []
 text_of (Words words) = plain_words words
 text_of (Element tag content) = start_tag (tag_name tag) (tag_attributes tag) ++ (text_of content ++ end_tag (tag_name tag))
 text_of (Then first second) = text_of first ++ text_of second
 
--- what the text is
+-- the declaration of a document
 abbrev pub declaration : List ℕ
 declaration = codes "<?xml version=\"1.0\" encoding=\"UTF-8\"?>\n"
 
--- a document: what it is, and its one element
+-- a document: its declaration, and its one element
 abbrev pub document : Content → List ℕ
 document content = declaration ++ text_of content
 
@@ -131,7 +131,7 @@ group (content ∷ more) = Then content (group more)
 abbrev pub each : {X : Type 0} → (X → Content) → List X → Content
 each f xs = group (map f xs)
 
--- the attribute that a value of the program stands for
+-- the attribute of a value of the program
 abbrev pub named : Attribute → Named
 named (given.Number name n) = number name.now n
 named (given.Words name bytes) = words name.now bytes.now

@@ -1,4 +1,4 @@
--- The picture of a history and what is claimed of it: the whole as a tree of elements, and its text.
+-- The picture of a history and a claim about it: the whole as a tree of elements, and its text.
 use Rattle.std.specs.Prelude.{ℕ, ◌+◌, ◌-◌, ◌*◌, not, Bool, true, false, if◌then◌else◌, Option, Some, None}
 use Rattle.std.specs.Prelude.{List, [], ◌∷◌, ◌++◌, length, map, codes, decimal}
 use Rattle.std.specs.List.{concat, enumerate_from}
@@ -30,22 +30,23 @@ use Rattle.svg_picture.specs.Layout.{line_count, parts, longest}
 use Rattle.svg_picture.specs.declared.words.TheConstants.{READING}
 use Rattle.svg_picture.specs.Elements.{text_at, rect, open_rect, stroke, lines_at, samples, hatch, style_element}
 
--- ---- what characters don't have
+-- ---- parts that pictures of characters don't have
 
--- how round the corners of a bar are: dequeues are round
+-- the rounding of a bar's corners: dequeues are round
 abbrev pub corner : OpKind → ℕ
 corner (kind.Enq v) = 0
 corner (kind.Deq v) = 9
 corner (kind.Not v) = 0
 corner kind.Empty = 9
 
--- the class of a band, by its form; nothing where there is no band
+-- the class of a band by its form; nothing without a band
 abbrev pub form_class : BandHead → List ℕ
 form_class head = form_words head (codes "sure") (codes "none") (codes "time")
 
--- ---- what is claimed of an operation
+-- ---- marks of operations
 
--- how an operation or an initial value is marked: of a `NO` those of the claim are on, the others off, or away from those
+-- the class that marks an operation or an initial value: for a `NO` those of the claim are on, the others off, or
+-- away from those
 abbrev pub mark : Claimed → Bool → Option ℕ → List ℕ
 mark (Yes order) away place = codes "yes"
 mark (No kind lines) away (Some place) = codes "on"
@@ -59,12 +60,12 @@ abbrev pub number_words : Option ℕ → List ℕ
 number_words None = []
 number_words (Some place) = codes ", number " ++ decimal (place + 1)
 
--- the tickets of an operation, in words; a pending one has that of its call alone
+-- the tickets of an operation, in words; for a pending one only that of its call
 abbrev pub tickets_words : Bool → Operation → List ℕ
 tickets_words false o = concat (codes ", tickets " ∷ decimal o.call ∷ codes " to " ∷ decimal o.ret ∷ [])
 tickets_words true o = concat (codes ", ticket " ∷ decimal o.call ∷ codes ", never returned" ∷ [])
 
--- the title of a bar: its thread, what it did, its tickets if it is pending or not, and its number
+-- the title of a bar: its thread, its kind and value, its tickets, and its number
 unfoldable pub bar_words : Bool → Operation → Option ℕ → List ℕ
 bar_words pending o place =
     concat (codes "thread " ∷ decimal o.thread ∷ codes ": " ∷ told true o.kind ∷ tickets_words pending o ∷ number_words place ∷ [])
@@ -74,7 +75,7 @@ unfoldable pub pill : ℕ → ℕ → ℕ → Content
 pill x y n =
     group (rect (codes "pill") 8 x y (10 + 7 * digits n) 16 ∷ text_at 7 (codes "pick") (x + 5) (y + 12) (decimal n) ∷ [])
 
--- the number of a place in a `NO`, beside the label of a bar whose lane begins here
+-- the number of a place in a `NO`, to the right of the label of a bar whose lane begins at x
 unfoldable pub bar_number : Measures → ℕ → ℕ → Option ℕ → Content
 bar_number m x y None = Nothing
 bar_number m x y (Some place) = pill (x + number_x m) y (place + 1)
@@ -91,7 +92,7 @@ marked_bar m class title words b =
     Element (Group class) (group (Element Title (Words title) ∷ bar_frame m b
     ∷ text_at 7 (codes "label") (b.x + 9) b.base words ∷ bar_number m b.x (b.base - 12) b.place ∷ []))
 
--- where the bar of an operation stands, from its call to its end; the number of a `YES` stands where it takes effect
+-- the bar of an operation, from its call to its end; for a `YES` its number is at its effect
 abbrev pub bar_of : Page → Operation → Bar
 bar_of page o = record {
   x = thread_x page o.thread;
@@ -123,25 +124,25 @@ is_time (band_head.InAndOut v) = true
 is_time band_head.SaidEmpty = true
 is_time _ = false
 
--- an edge of a band: in the row of a call, or of a return; or here, where no event makes it
+-- an edge of a band: in the row of a call or of a return, or at `here` if no event makes it
 abbrev pub edge_y : Page → Bool → ℕ → Option ℕ → ℕ
 edge_y page is_call here None = here
 edge_y page is_call here (Some ticket) = if is_call then call_y page ticket else ret_y page ticket
 
--- the upper edge of a band: the time begins at a call, a value definitely is in from a return on
+-- the upper edge of a band: a time begins at a call, and a value is definitely in the queue from a return on
 abbrev pub first_y : Page → Band → ℕ
 first_y page band = edge_y page (is_time band.head) (top page.measures) band.first
 
--- the lower edge of a band: the time ends at a return, a value definitely is in up to a call
+-- the lower edge of a band: a time ends at a return, and a value is definitely in the queue up to a call
 abbrev pub last_y : Page → Band → ℕ
 last_y page band = edge_y page (not (is_time band.head)) (bottom page.measures) band.last
 
--- a dotted line from a band to the lanes, where an event makes an edge of it
+-- a dotted line from a band to the lanes, if an event makes its edge
 unfoldable pub guide : Measures → List ℕ → ℕ → ℕ → Option ℕ → Content
 guide m class x y None = Nothing
 guide m class x y (Some ticket) = stroke class x y (left m) y
 
--- the band between its edges, with its dotted lines, and a thin line from its head; nothing where its head has no form
+-- the band between its edges, with its dotted lines, and a thin line from its head; nothing if its head has no form
 unfoldable pub formed_band : Page → List ℕ → ℕ → ℕ → Band → Content
 formed_band page [] x y band = Nothing
 formed_band page (b ∷ bytes) x y band =
@@ -149,7 +150,8 @@ formed_band page (b ∷ bytes) x y band =
     group (guide page.measures class (x + 28) (first_y page band) band.first ∷ guide page.measures class (x + 28) (last_y page band) band.last
     ∷ stroke (codes "lead") x y x (first_y page band) ∷ rect class 0 x (first_y page band) 28 (last_y page band - first_y page band) ∷ [])
 
--- the heads stand one above another, so that each has the room to its right, and above the names of the lanes
+-- the height of a head: each is above the next, so that it has the room to its right, and all are above the names of
+-- the lanes
 abbrev pub head_y : Measures → ℕ → ℕ
 head_y m i = top m - (28 + 20 * (m.heads - (i + 1)))
 
@@ -169,7 +171,7 @@ bands page = each (band_at page) (enumerate_from 0 page.scene.bands)
 unfoldable pub initial_words : ℕ → Option ℕ → List ℕ
 initial_words v place = concat (codes "init " ∷ decimal v ∷ codes ", in the queue first" ∷ number_words place ∷ [])
 
--- an initial value in its row from this height on: its bar in line with the first lane
+-- the bar of an initial value in its row, in line with the first lane
 unfoldable pub placed_initial : Page → ℕ → Row → ℕ → Content
 placed_initial page y r v =
     let place = place_in (shown_by page.scene.claimed) r in
@@ -178,13 +180,13 @@ placed_initial page y r v =
 
 -- ---- rows
 
--- a word in the place of the first band, with a dotted line from it to the lanes; nothing without a word
+-- a word at the first band, with a dotted line from it to the lanes; nothing without a word
 unfoldable pub way_at : Measures → ℕ → List ℕ → Content
 way_at m y [] = Nothing
 way_at m y (b ∷ bytes) =
     group (text_at 7 (codes "name") (shown m) (y + 4) (b ∷ bytes) ∷ stroke (codes "time") (shown m + 28) y (left m) y ∷ [])
 
--- words at the right of the column of tickets; nothing without words
+-- words, right-aligned in the column of tickets; nothing without words
 unfoldable pub in_tickets : Measures → ℕ → List ℕ → Content
 in_tickets m y [] = Nothing
 in_tickets m y (b ∷ bytes) = text_at 7 (codes "dim") (6 + 7 * (m.ticket - length (b ∷ bytes))) y (b ∷ bytes)
@@ -195,25 +197,26 @@ effect page y o number =
     group (text_at 7 (codes "label") (shown page.measures + 7 * (page.measures.number - digits number)) (y + 14)
     (numbered 0 (decimal number) (label o.kind)) ∷ pill (thread_x page o.thread + number_x page.measures) (y + 2) number ∷ [])
 
--- how far below the upper edge of a row the word for its value stands: a call is at the lower edge
+-- the distance of the word for a row's value from the upper edge of the row: a call is at the lower edge
 abbrev pub way_y : Row → ℕ
 way_y (Initial place v) = 10
 way_y r = 20
 
--- what one kind of row alone has
+-- the parts that only this kind of row has
 abbrev pub row_own : Page → ℕ → Row → Content
 row_own page y Head = text_at 7 (codes "dim") (left page.measures + 3) (y + 14) (codes "in the queue first")
 row_own page y (Initial place v) = placed_initial page y (Initial place v) v
 row_own page y (Effect o number point) = effect page y o number
 row_own page y r = Nothing
 
--- what stands in a row: words in the column of tickets, the word `in` or `out` of a value that was dequeued twice, and its own
+-- the parts of a row: words in the column of tickets, the word `in` or `out` of a value that was dequeued twice, and
+-- its own parts
 unfoldable pub row_parts : Page → Row → Content
 row_parts page r =
     group (in_tickets page.measures (row_y page r + 14) (ticket_words page.scene.added_from r)
     ∷ way_at page.measures (row_y page r + way_y r) (way_in page.scene.claimed r) ∷ row_own page (row_y page r) r ∷ [])
 
--- the rows, under the words above their columns, and the word below them
+-- the rows, below the words above their columns, and the word below them
 unfoldable pub rows : Page → Content
 rows page = each (row_parts page) page.scene.rows
 
@@ -260,34 +263,34 @@ sign Away y = rect (codes "far") 0 6 (y + 1) 28 14
 sign Pending y = open_rect (codes "enq") 0 6 (y + 1) 28 14
 sign others y = rect (codes "time") 0 6 (y + 1) 28 14
 
--- sign i, and what it means
+-- sign i with its meaning
 unfoldable pub sign_at : Measures → ℕ × Sign → Content
 sign_at m (i, s) =
     let y = legend_y m + 63 + 20 * i in
     group (sign s y ∷ text_at 7 (codes "dim") 41 (y + 12) (meaning s) ∷ [])
 
--- the signs of the picture, each in a line
+-- the signs of the picture, one to a line
 unfoldable pub signs : Page → Content
 signs page = each (sign_at page.measures) (enumerate_from 0 (signs_of page.scene))
 
--- the words above: the headline, the caption, and how to read the picture
+-- the words above the lanes: the headline, the caption, and the legend
 unfoldable pub heading : Page → Content
 heading page =
     group (text_at 9 (codes "head") 6 26 (headline page.scene.claimed) ∷ lines_at 8 (codes "say") 46 (caption page.scene.added_from page.scene.claimed)
     ∷ samples (legend_y page.measures) ∷ lines_at 7 (codes "dim") (legend_y page.measures + 35) READING.now
     ∷ signs page ∷ [])
 
--- the words for those who don't see the picture, and its style
+-- the words for those who can't see the picture, and its style
 unfoldable pub about : SceneView → Content
 about scene =
     group (Element Title (Words (headline scene.claimed)) ∷ Element Desc (Words (caption scene.added_from scene.claimed))
     ∷ style_element ∷ [])
 
--- the whole picture's own units
+-- the units of the whole picture
 unfoldable pub view_box : Measures → List ℕ
 view_box m = concat (codes "0 0 " ∷ decimal (width m) ∷ codes " " ∷ decimal (height m) ∷ [])
 
--- what stands between the tags of the picture: above and under the lanes, and in them
+-- all elements between the tags of the picture: above and below the lanes, and in them
 unfoldable pub inside : Page → Content
 inside page =
     group (about page.scene ∷ background page.measures ∷ heading page ∷ names page.measures
@@ -297,14 +300,14 @@ inside page =
 unfoldable pub page_content : Page → Content
 page_content page = Element (Svg (width page.measures) (height page.measures) (view_box page.measures)) (inside page)
 
--- ---- of a scene
+-- ---- the picture of a scene
 
--- there is an order
+-- the claim is a `YES`
 abbrev pub is_yes : Claimed → Bool
 is_yes (Yes order) = true
 is_yes (No kind lines) = false
 
--- how wide the parts of a picture are, in characters, and how many there are
+-- the measures of a picture: how wide its parts are, in characters, and how many there are
 abbrev pub measures_of : SceneView → Measures
 measures_of scene = record {
   ticket = ticket_width scene.added_from scene.rows;

@@ -19,7 +19,7 @@ use itoa::Buffer;
 use std::alloc::{AllocError, Global};
 use claims::Claimed;
 
-/// How an operation or an initial value is marked.
+/// Returns the class that marks an operation or an initial value.
 pub(crate) fn mark(claimed: &Claimed, away: bool, place: Option<usize>) -> &'static [u8]
     ensures { result.now ≡ mark claimed.now away place }
 {
@@ -31,7 +31,7 @@ pub(crate) fn mark(claimed: &Claimed, away: bool, place: Option<usize>) -> &'sta
     }
 }
 
-/// Adds the number of a place, in words.
+/// Appends the number of a place, in words.
 pub(crate) fn push_number_words(text: &mut Vec<u8>, place: Option<usize>) -> Added
     ensures { OnOk result (text.new.items ≡ text.old.items ++ number_words place) }
 {
@@ -44,7 +44,7 @@ pub(crate) fn push_number_words(text: &mut Vec<u8>, place: Option<usize>) -> Add
     }
 }
 
-/// Adds the tickets of an operation, in words; of a pending one that of its call alone.
+/// Appends the tickets of an operation, in words; for a pending one only that of its call.
 fn push_tickets_words(text: &mut Vec<u8>, pending: bool, operation: Operation) -> Added
     ensures { OnOk result (text.new.items ≡ text.old.items ++ tickets_words pending operation) }
 {
@@ -60,7 +60,7 @@ fn push_tickets_words(text: &mut Vec<u8>, pending: bool, operation: Operation) -
     }
 }
 
-/// The title of a bar.
+/// Returns the title of a bar.
 #[tactic(auto, unfolding(crate::specs::Picture::bar_words))]
 fn bar_words(
     alloc: Global,
@@ -93,7 +93,7 @@ pub(crate) fn push_pill(text: &mut Vec<u8>, x: u128, y: u128, number: u64) -> Ad
     push_text_at(text, 7, b"pick", x + 5, y + 12, words)
 }
 
-/// Adds the number of a place in a `NO`, beside the label of a bar whose lane begins here.
+/// Adds the number of a place in a `NO`, to the right of the label of a bar whose lane begins at `x`.
 #[tactic(auto, unfolding(crate::specs::Picture::bar_number))]
 fn push_bar_number(text: &mut Vec<u8>, m: Measures, x: u128, y: u128, place: Option<usize>) -> Added
     requires x { x ≤ 2 ^ 91 }
@@ -107,8 +107,8 @@ fn push_bar_number(text: &mut Vec<u8>, m: Measures, x: u128, y: u128, place: Opt
     }
 }
 
-/// A bar: where its lane begins, its upper edge, its height, the base line of its label, what was done, its place in a `NO`, and
-/// whether its call is pending.
+/// A bar: the left edge of its lane, its upper edge, its height, the base line of its label, the kind of its
+/// operation, its place in a `NO`, and whether its call is pending.
 #[derive(Clone, Copy)]
 pub(crate) struct Bar {
     pub x: u128,

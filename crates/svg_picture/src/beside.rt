@@ -9,7 +9,7 @@ use crate::layout::{band_x, bottom, left, row_y, top};
 use crate::sheet::{Measures, Sheet};
 use drawing::{Added, Band, Head, Row, form_words, head_words};
 
-/// An edge of a band: in the row of a call, or of a return; or here, where no event makes it.
+/// Returns an edge of a band: in the row of a call or of a return, or at `here` if no event makes it.
 fn edge_y(sheet: &Sheet<'_>, is_call: bool, here: u128, edge: Option<u64>) -> u128
     ensures { result ≡ edge_y (page_on sheet.now) is_call here edge }
 {
@@ -20,7 +20,7 @@ fn edge_y(sheet: &Sheet<'_>, is_call: bool, here: u128, edge: Option<u64>) -> u1
     }
 }
 
-/// A dotted line from a band to the lanes, where an event makes an edge of it.
+/// Adds a dotted line from a band to the lanes, if an event makes its edge.
 #[tactic(auto, unfolding(crate::specs::Picture::guide))]
 fn push_guide(
     text: &mut Vec<u8>,
@@ -38,7 +38,7 @@ fn push_guide(
     }
 }
 
-/// Adds a band with its dotted lines, where its head has a form.
+/// Adds a band with its dotted lines, if its head has a form.
 #[tactic(auto, unfolding(crate::specs::Picture::formed_band))]
 fn push_formed_band(text: &mut Vec<u8>, sheet: &Sheet<'_>, x: u128, y: u128, band: Band) -> Added
     requires { x ≤ 2 ^ 92 }

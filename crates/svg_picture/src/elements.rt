@@ -8,7 +8,7 @@ use crate::markup::Attribute::{Number, Words};
 use crate::markup::{push_element, push_end, push_start};
 use drawing::Added;
 
-/// Adds words of a class from a point on, this many pixels for each character.
+/// Adds words of a class, from a point on, with this many pixels for each character.
 #[tactic(auto, unfolding(crate::specs::Elements::text_at))]
 pub(crate) fn push_text_at(
     text: &mut Vec<u8>,
@@ -34,7 +34,7 @@ pub(crate) fn push_text_at(
     )
 }
 
-/// Adds a rectangle of a class from a point on, so wide and so high, with round corners.
+/// Adds a rectangle of a class with this corner, size and rounding.
 #[tactic(auto, unfolding(crate::specs::Elements::rect))]
 pub(crate) fn push_rect(
     text: &mut Vec<u8>,
@@ -60,7 +60,7 @@ pub(crate) fn push_rect(
     )
 }
 
-/// Adds a rectangle of a class without its lower edge, from a point on.
+/// Adds a rectangle of a class without its lower edge.
 #[tactic(auto, unfolding(crate::specs::Elements::open_rect))]
 pub(crate) fn push_open_rect(
     text: &mut Vec<u8>,
@@ -138,7 +138,7 @@ pub(crate) fn push_lines_at(
     }
 }
 
-/// Adds a sample of a bar with its word, and what it means.
+/// Adds a sample of a bar with its word and its meaning.
 #[tactic(auto, unfolding(crate::specs::Elements::sample))]
 fn push_sample(
     text: &mut Vec<u8>,
@@ -169,7 +169,7 @@ pub(crate) fn push_samples(text: &mut Vec<u8>, y: u128) -> Added
     push_sample(text, 441, y, b"not", 0, b"not taken")
 }
 
-/// Adds the tag that begins a pattern of this name, from this height on.
+/// Adds the tag that begins a pattern with this name, from this height on.
 pub(crate) fn push_pattern(
     text: &mut Vec<u8>,
     id: &[u8],

@@ -12,7 +12,8 @@ use drawing::{Added, MOST_DRAWN, Scene, is_pending, push_told};
 use history_merge::{History, Operation, Operations};
 use std::alloc::{AllocError, Global};
 
-/// The most operations of a history that its page lists, so that rows can unfold. Their lines take up to 1.3 megabytes.
+/// The maximum number of operations of a history that its page lists, so that rows can unfold. Their lines take up to
+/// 1.3 megabytes.
 pub(crate) const MOST_LISTED: usize = 20_000;
 
 #[tactic(auto, unfolding(crate::specs::Html::page_head))]
@@ -42,7 +43,7 @@ fn pending_word(pending: bool) -> &'static [u8]
     if pending { b" pending" } else { b"" }
 }
 
-/// Adds the tickets and the thread of an operation.
+/// Appends the tickets and the thread of an operation.
 fn push_times(text: &mut Vec<u8>, operation: Operation) -> Added
     ensures { OnOk result (text.new.items ≡ text.old.items ++ times_words operation) }
 {
@@ -54,7 +55,7 @@ fn push_times(text: &mut Vec<u8>, operation: Operation) -> Added
     text.extend_from_slice(b" ")
 }
 
-/// Adds an operation in a line.
+/// Appends an operation in a line.
 #[tactic(auto, using(crate::proofs::Chains::pieces), unfolding(crate::specs::Html::operation_line))]
 fn push_operation(text: &mut Vec<u8>, added_from: Option<u64>, operation: Operation) -> Added
     ensures { OnOk result (text.new.items ≡ text.old.items ++ operation_line added_from operation) }
@@ -65,7 +66,7 @@ fn push_operation(text: &mut Vec<u8>, added_from: Option<u64>, operation: Operat
     text.extend_from_slice(b"\n")
 }
 
-/// Adds these operations, each in a line.
+/// Appends these operations, one to a line.
 #[tactic(auto, using(crate::proofs::Each::steps))]
 fn push_operations(
     text: &mut Vec<u8>,
@@ -80,7 +81,7 @@ fn push_operations(
     Ok(())
 }
 
-/// Adds the operations of a history, if they are few enough to be listed.
+/// Appends the operations of a history, if they are few enough to be listed.
 fn push_history(text: &mut Vec<u8>, added_from: Option<u64>, history: &History) -> Added
     ensures { OnOk result (text.new.items ≡ text.old.items ++ operation_lines history.now added_from) }
 {
@@ -92,12 +93,13 @@ fn push_history(text: &mut Vec<u8>, added_from: Option<u64>, history: &History) 
     }
 }
 
-/// Returns the picture of a history's scene as one HTML page that needs nothing else: the picture of
-/// [`svg_picture`](crate::svg_picture), the operations of the history if they are at most 20,000, and around both fixed
-/// pieces with a script, which unfolds what the picture leaves out. Without scripts the page is the picture.
+/// Draws a history's scene as one HTML page that needs nothing else.
 ///
-/// Time and memory are those of the picture, and O(n) for n listed operations. `AllocError` comes only where a growth
-/// was refused.
+/// It has the picture of [`svg_picture`](crate::svg_picture), the operations of the history if they are at most
+/// 20,000, and around both fixed pieces with a script, which unfolds what the picture leaves out. Without scripts the
+/// page is the picture.
+///
+/// Time and memory are those of the picture, and O(n) for n listed operations. The only error is out of memory.
 #[tactic(auto, unfolding(crate::specs::Html::html_picture))]
 pub fn html_picture(
     alloc: Global,

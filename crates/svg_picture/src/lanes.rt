@@ -22,7 +22,7 @@ fn push_lane_names(text: &mut Vec<u8>, sheet: &Sheet<'_>, thread: u8) -> Added
     push_text_at(text, 7, b"name", x, bottom(m) + 14, name.as_slice())
 }
 
-/// Adds the names of the threads, above their lanes and below them.
+/// Adds the names of the threads, above and below their lanes.
 #[tactic(auto, using(crate::proofs::Each::steps), unfolding(crate::specs::Picture::threads))]
 pub(crate) fn push_threads(text: &mut Vec<u8>, sheet: &Sheet<'_>) -> Added
     ensures { OnOk result (text.new.items ≡ text.old.items ++ text_of (threads (page_on sheet.now))) }

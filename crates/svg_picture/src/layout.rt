@@ -1,4 +1,4 @@
-//! Where things stand in a picture, in pixels.
+//! The layout of a picture, in pixels.
 ghost use Rattle.std.specs.Prelude.{◌≡◌, ◌≤◌, ◌^◌};
 ghost use Rattle.svg_picture.specs.Layout.{page_on, shown, band_x, left, number_x, bar_width, lane_x, thread_x, width};
 ghost use Rattle.svg_picture.specs.Layout.{legend_y, top, row_y, bottom, bar_end, height};
@@ -7,7 +7,7 @@ use crate::sheet::{Measures, Sheet};
 use drawing::{Row, is_pending, lanes_before, row_number};
 use history_merge::Operation;
 
-/// Where the tickets end, with a gap.
+/// Returns the right edge of the tickets, with a gap.
 pub(crate) fn shown(m: Measures) -> u128
     ensures value { result ≡ shown m }
     ensures small { result ≤ 10000 }
@@ -15,7 +15,7 @@ pub(crate) fn shown(m: Measures) -> u128
     18 + 7 * u128::from(m.ticket)
 }
 
-/// Where a band stands, with this many to its left.
+/// Returns the left edge of band i.
 pub(crate) fn band_x(m: Measures, i: usize) -> u128
     ensures value { result ≡ band_x m i }
     ensures small { result ≤ 2 ^ 85 }
@@ -23,7 +23,7 @@ pub(crate) fn band_x(m: Measures, i: usize) -> u128
     shown(m) + 36 * i as u128
 }
 
-/// Where the lanes begin.
+/// Returns the left edge of the first lane.
 pub(crate) fn left(m: Measures) -> u128
     ensures value { result ≡ left m }
     ensures small { result ≤ 2 ^ 86 }
@@ -37,7 +37,7 @@ pub(crate) fn left(m: Measures) -> u128
     shown(m) + 12 + room
 }
 
-/// How far from the beginning of its lane the number of an operation stands, right of its label.
+/// Returns the distance of an operation's number from the left edge of its lane; it is to the right of the label.
 pub(crate) fn number_x(m: Measures) -> u128
     ensures value { result ≡ number_x m }
     ensures small { result ≤ 10000 }
@@ -45,7 +45,7 @@ pub(crate) fn number_x(m: Measures) -> u128
     15 + 7 * u128::from(m.label)
 }
 
-/// How wide a bar is.
+/// Returns the width of a bar.
 pub(crate) fn bar_width(m: Measures) -> u128
     ensures value { result ≡ bar_width m }
     ensures small { result ≤ 10000 }
@@ -61,7 +61,7 @@ fn lane_x(m: Measures, before: usize) -> u128
     left(m) + lane * before as u128
 }
 
-/// Where the lane of a thread begins.
+/// Returns the left edge of a thread's lane.
 #[tactic(auto, unfolding(crate::specs::Layout::thread_x))]
 pub(crate) fn thread_x(sheet: &Sheet<'_>, thread: u8) -> u128
     ensures value { result ≡ thread_x (page_on sheet.now) thread }
@@ -71,7 +71,7 @@ pub(crate) fn thread_x(sheet: &Sheet<'_>, thread: u8) -> u128
     lane_x(sheet.measures, before)
 }
 
-/// How wide the picture is.
+/// Returns the width of the picture.
 #[tactic(auto, unfolding(crate::specs::Layout::width))]
 pub(crate) fn width(m: Measures) -> u128
     ensures value { result ≡ width m }
@@ -82,7 +82,7 @@ pub(crate) fn width(m: Measures) -> u128
     6 + words.max((lane_x(m, m.lanes) + 12).max(heads))
 }
 
-/// Where the samples of bars stand.
+/// Returns the upper edge of the samples of bars.
 pub(crate) fn legend_y(m: Measures) -> u128
     ensures value { result ≡ legend_y m }
     ensures small { result ≤ 2 ^ 80 }
@@ -90,7 +90,7 @@ pub(crate) fn legend_y(m: Measures) -> u128
     40 + 20 * m.captions as u128
 }
 
-/// Where the first row begins.
+/// Returns the upper edge of the first row.
 #[tactic(auto, unfolding(crate::specs::Layout::top))]
 pub(crate) fn top(m: Measures) -> u128
     ensures value { result ≡ top m }
@@ -100,7 +100,7 @@ pub(crate) fn top(m: Measures) -> u128
     legend_y(m) + 32 + 20 * (m.legend as u128 + m.heads as u128 + 1)
 }
 
-/// The upper edge of a row.
+/// Returns the upper edge of a row.
 pub(crate) fn row_y(sheet: &Sheet<'_>, row: Row) -> u128
     ensures value { result ≡ row_y (page_on sheet.now) row }
     ensures small { result ≤ 2 ^ 91 }
@@ -109,7 +109,7 @@ pub(crate) fn row_y(sheet: &Sheet<'_>, row: Row) -> u128
     top(sheet.measures) + 20 * number as u128
 }
 
-/// Where the last row ends.
+/// Returns the lower edge of the last row.
 #[tactic(auto, unfolding(crate::specs::Layout::bottom))]
 pub(crate) fn bottom(m: Measures) -> u128
     ensures value { result ≡ bottom m }
@@ -132,7 +132,7 @@ pub(crate) fn bar_end(sheet: &Sheet<'_>, operation: Operation) -> u128
     }
 }
 
-/// How high the picture is.
+/// Returns the height of the picture.
 pub(crate) fn height(m: Measures) -> u128
     ensures { result ≡ height m }
 {

@@ -1,4 +1,4 @@
-//! Pictures of histories, with what is claimed of them, as SVG documents.
+//! Pictures of histories and claims about them, as SVG documents.
 #![tactic(auto)]
 
 mod bars;

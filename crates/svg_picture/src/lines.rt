@@ -6,7 +6,7 @@ ghost use Rattle.svg_picture.specs.Layout.{line_count, longest, parts};
 use drawing::{Band, head_words};
 use std::alloc::{AllocError, Global};
 
-/// The bytes before the first line feed and those after it.
+/// Returns the bytes before the first line feed, and those after it.
 pub(crate) fn split_line(bytes: &[u8]) -> Option<(&[u8], &[u8])>
     ensures parts { MatchOption result (parts bytes.now ≡ bytes.now ∷ []) (λ p. parts bytes.now ≡ p.0.now ∷ parts p.1.now) }
     ensures less { IfSome result (λ p. length p.1.now < length bytes.now) }
@@ -19,14 +19,14 @@ pub(crate) fn split_line(bytes: &[u8]) -> Option<(&[u8], &[u8])>
     None
 }
 
-/// How many lines a text has.
+/// Returns the number of lines of a text.
 pub(crate) fn line_count(text: &[u8]) -> usize
     ensures { result ≡ line_count text.now }
 {
     text.iter().filter(|b| **b == b'\n').count()
 }
 
-/// The length of the longest line of a text.
+/// Returns the length of the longest line of a text.
 pub(crate) fn longest_line(text: &[u8]) -> usize
     ensures { result ≡ longest (parts text.now) }
 {
@@ -36,7 +36,7 @@ pub(crate) fn longest_line(text: &[u8]) -> usize
     }
 }
 
-/// The length of the longest head of these bands.
+/// Returns the length of the longest head of these bands.
 pub(crate) fn longest_head(alloc: Global, bands: &[Band]) -> Result<usize, AllocError>
     ensures { IfOk result (λ longest_head. longest_head ≡ longest (map (λ band. head_text band.head) bands.now)) }
 {

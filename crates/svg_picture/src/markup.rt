@@ -9,9 +9,9 @@ use itoa::Buffer;
 /// An attribute of an element: its name and its value.
 #[derive(Clone, Copy)]
 pub(crate) enum Attribute<'a> {
-    /// The digits of this number.
+    /// An attribute whose value is this number.
     Number(&'a [u8], u128),
-    /// These words.
+    /// An attribute whose value is these words.
     Words(&'a [u8], &'a [u8]),
 }
 
@@ -24,7 +24,7 @@ fn plain_byte(b: u8) -> u8
     }
 }
 
-/// Adds words, with a question mark in place of each byte that means markup.
+/// Appends words, with a question mark in place of each byte that means markup.
 #[tactic(auto, using(crate::proofs::Each::steps))]
 pub(crate) fn push_plain(text: &mut Vec<u8>, words: &[u8]) -> Added
     ensures { OnOk result (text.new.items ≡ text.old.items ++ plain_words words.now) }
@@ -35,7 +35,7 @@ pub(crate) fn push_plain(text: &mut Vec<u8>, words: &[u8]) -> Added
     Ok(())
 }
 
-/// Adds a number in its digits.
+/// Appends the digits of a number.
 pub(crate) fn push_number(text: &mut Vec<u8>, number: u128) -> Added
     ensures { OnOk result (text.new.items ≡ text.old.items ++ decimal number) }
 {
@@ -75,7 +75,7 @@ fn push_attributes(text: &mut Vec<u8>, attributes: &[Attribute<'_>]) -> Added
     Ok(())
 }
 
-/// Adds the tag that begins an element.
+/// Appends the tag that begins an element.
 pub(crate) fn push_start(text: &mut Vec<u8>, name: &[u8], attributes: &[Attribute<'_>]) -> Added
     ensures { OnOk result (text.new.items ≡ text.old.items ++ start_tag name.now (map named attributes.now)) }
 {
@@ -85,7 +85,7 @@ pub(crate) fn push_start(text: &mut Vec<u8>, name: &[u8], attributes: &[Attribut
     text.extend_from_slice(b">")
 }
 
-/// Adds the tag that closes an element.
+/// Appends the tag that closes an element.
 pub(crate) fn push_end(text: &mut Vec<u8>, name: &[u8]) -> Added
     ensures { OnOk result (text.new.items ≡ text.old.items ++ end_tag name.now) }
 {

@@ -35,7 +35,7 @@ fn caption_of(alloc: Global, scene: &Scene<'_>) -> Result<Vec<u8>, AllocError>
     Ok(words)
 }
 
-/// Adds the words above: the headline, the caption, and how to read the picture.
+/// Adds the words above the lanes: the headline, the caption, and the legend.
 #[tactic(auto, unfolding(crate::specs::Picture::heading))]
 fn push_heading(text: &mut Vec<u8>, sheet: &Sheet<'_>) -> Added
     ensures { OnOk result (text.new.items ≡ text.old.items ++ text_of (heading (page_on sheet.now))) }
@@ -49,7 +49,7 @@ fn push_heading(text: &mut Vec<u8>, sheet: &Sheet<'_>) -> Added
     push_signs(text, sheet)
 }
 
-/// Adds the words for those who don't see the picture, and its style.
+/// Adds the words for those who can't see the picture, and its style.
 #[tactic(auto, unfolding(crate::specs::Picture::about))]
 fn push_about(alloc: Global, text: &mut Vec<u8>, scene: &Scene<'_>) -> Added
     requires { count_of_lines scene.now.claimed.now ≤ MOST_DRAWN }
@@ -61,7 +61,7 @@ fn push_about(alloc: Global, text: &mut Vec<u8>, scene: &Scene<'_>) -> Added
     push_style(text)
 }
 
-/// Adds what stands between the tags of the picture.
+/// Adds all elements between the tags of the picture.
 #[tactic(auto, using(crate::proofs::Chains::pieces), unfolding(crate::specs::Picture::inside))]
 fn push_inside(text: &mut Vec<u8>, sheet: &Sheet<'_>) -> Added
     ensures { OnOk result (text.new.items ≡ text.old.items ++ text_of (inside (page_on sheet.now))) }
@@ -109,7 +109,7 @@ fn push_page(text: &mut Vec<u8>, sheet: &Sheet<'_>) -> Added
     push_end(text, b"svg")
 }
 
-/// How wide the parts of a picture are, and how many there are.
+/// Returns the measures of a picture: how wide its parts are, and how many there are.
 fn measures_of(alloc: Global, scene: &Scene<'_>) -> Result<Measures, AllocError>
     requires { count_of_lines scene.now.claimed.now ≤ MOST_DRAWN }
     ensures { IfOk result (λ m. m ≡ measures_of (scene_on scene.now)) }
@@ -145,10 +145,10 @@ pub(crate) fn push_picture(alloc: Global, text: &mut Vec<u8>, scene: &Scene<'_>)
     push_page(text, &sheet)
 }
 
-/// The picture of a scene as an SVG 1.1 document.
+/// Draws a scene as an SVG 1.1 document.
 ///
-/// The claim need not be evidence: what stands in the picture follows its lines. Time O(n n) for n rows, and O(k m) for k initial
-/// values and m lines; memory for the text, of O(n + k) bytes. `AllocError` comes only where a growth was refused.
+/// The claim need not be evidence: the picture shows its lines. Takes O(n n) time for n rows, O(k m) for k initial
+/// values and m lines, and memory for the text, of O(n + k) bytes. The only error is out of memory.
 #[tactic(auto, unfolding(crate::specs::Picture::svg_picture))]
 pub fn svg_picture(alloc: Global, scene: &Scene<'_>) -> Result<Vec<u8>, AllocError>
     // The claim has few enough lines to be drawn.

@@ -16,7 +16,7 @@ use history_merge::{OpKind, Operation};
 use itoa::Buffer;
 use std::alloc::{AllocError, Global};
 
-/// The title of an initial value.
+/// Returns the title of an initial value.
 #[tactic(auto, unfolding(crate::specs::Picture::initial_words))]
 fn initial_words(alloc: Global, value: u64, place: Option<usize>) -> Result<Vec<u8>, AllocError>
     ensures { IfOk result (λ words. words.items ≡ initial_words value place) }
@@ -28,7 +28,7 @@ fn initial_words(alloc: Global, value: u64, place: Option<usize>) -> Result<Vec<
     Ok(words)
 }
 
-/// Adds an initial value: its bar, in line with the first lane.
+/// Adds the bar of an initial value, in line with the first lane.
 #[tactic(auto, unfolding(crate::specs::Picture::placed_initial))]
 fn push_initial(text: &mut Vec<u8>, sheet: &Sheet<'_>, y: u128, row: Row, value: u64) -> Added
     requires { y ≤ 2 ^ 91 }
@@ -51,7 +51,7 @@ fn push_initial(text: &mut Vec<u8>, sheet: &Sheet<'_>, y: u128, row: Row, value:
     push_marked_bar(text, m, class, title, label, bar)
 }
 
-/// Adds a word in the place of the first band, with a dotted line from it to the lanes.
+/// Adds a word at the first band, with a dotted line from it to the lanes.
 #[tactic(auto, unfolding(crate::specs::Picture::way_at))]
 fn push_way_at(text: &mut Vec<u8>, m: Measures, y: u128, words: &[u8]) -> Added
     requires { y ≤ 2 ^ 92 }
@@ -67,7 +67,7 @@ fn push_way_at(text: &mut Vec<u8>, m: Measures, y: u128, words: &[u8]) -> Added
     }
 }
 
-/// Adds words at the right of the column of tickets.
+/// Adds words, right-aligned in the column of tickets.
 #[tactic(auto, unfolding(crate::specs::Picture::in_tickets))]
 fn push_in_tickets(text: &mut Vec<u8>, m: Measures, y: u128, words: &[u8]) -> Added
     ensures { OnOk result (text.new.items ≡ text.old.items ++ text_of (in_tickets m y words.now)) }
@@ -103,7 +103,7 @@ fn push_effect(
     push_pill(text, x, y + 2, number)
 }
 
-/// Adds what one kind of row alone has.
+/// Adds the parts that only this kind of row has.
 fn push_row_own(text: &mut Vec<u8>, sheet: &Sheet<'_>, y: u128, row: Row) -> Added
     requires { y ≤ 2 ^ 91 }
     ensures { OnOk result (text.new.items ≡ text.old.items ++ text_of (row_own (page_on sheet.now) y row)) }
@@ -119,7 +119,7 @@ fn push_row_own(text: &mut Vec<u8>, sheet: &Sheet<'_>, y: u128, row: Row) -> Add
     }
 }
 
-/// Adds what stands in a row.
+/// Adds the parts of a row.
 #[tactic(auto, unfolding(crate::specs::Picture::row_parts))]
 fn push_row(text: &mut Vec<u8>, sheet: &Sheet<'_>, row: Row) -> Added
     ensures { OnOk result (text.new.items ≡ text.old.items ++ text_of (row_parts (page_on sheet.now) row)) }

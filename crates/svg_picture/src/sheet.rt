@@ -1,4 +1,4 @@
-//! What a picture is made of.
+//! The parts of a picture.
 ghost use Rattle.std.specs.Prelude.{◌≤◌, vec_len};
 ghost use Rattle.drawing.specs.Claim.{count_of_lines};
 ghost use Rattle.drawing.specs.declared.columns.TheConstants.{MOST_DRAWN};
@@ -7,37 +7,37 @@ ghost use Rattle.event_records.specs.declared.limits.TheConstants.{MAX_THREADS};
 use drawing::Scene;
 use std::alloc::Global;
 
-/// How wide the parts of a picture are, in characters, and how many there are.
+/// The measures of a picture: how wide its parts are, in characters, and how many there are.
 #[derive(Clone, Copy)]
 pub(crate) struct Measures {
-    /// The widest ticket, or the word above it.
+    /// The width of the widest ticket, or of the word above it.
     pub ticket: u8,
-    /// The greatest number of the claim.
+    /// The width of the greatest number of the claim.
     pub number: u8,
-    /// The longest label.
+    /// The width of the longest label.
     pub label: u8,
-    /// How many threads have events.
+    /// The number of threads that have events.
     pub lanes: usize,
-    /// How many rows there are.
+    /// The number of rows.
     pub rows: usize,
-    /// How many bands of a `NO` have a head.
+    /// The number of bands of a `NO` that have a head.
     pub heads: usize,
-    /// The longest head.
+    /// The width of the longest head.
     pub head: usize,
-    /// How many lines the caption has.
+    /// The number of lines of the caption.
     pub captions: usize,
-    /// The longest of them.
+    /// The width of the longest of these lines.
     pub caption: usize,
-    /// How many lines say how to read the picture.
+    /// The number of lines of the legend.
     pub legend: usize,
-    /// Whether it is of a `YES`.
+    /// Whether the picture is of a `YES`.
     pub is_yes: bool,
 }
 
 /// A scene, and its measures.
 #[derive(Clone, Copy)]
 pub(crate) struct Sheet<'a> {
-    /// Where the memory of its words comes from.
+    /// The allocator of its words.
     pub alloc: Global,
     pub measures: Measures,
     pub scene: &'a Scene<'a>,

@@ -1,4 +1,4 @@
-//! The signs of a picture, with what they mean.
+//! The signs of a picture with their meanings.
 ghost use Rattle.std.specs.Prelude.{◌≡◌, ◌++◌, OnOk};
 ghost use Rattle.svg_picture.specs.Markup.{text_of};
 ghost use Rattle.svg_picture.specs.Layout.{page_on};
@@ -10,7 +10,7 @@ use crate::layout::legend_y;
 use crate::sheet::{Measures, Sheet};
 use drawing::{Added, Sign, meaning, signs_of};
 
-/// Adds sign i, and what it means.
+/// Adds sign i with its meaning.
 #[tactic(auto, unfolding(crate::specs::Picture::sign_at))]
 fn push_sign_at(text: &mut Vec<u8>, m: Measures, i: usize, sign: Sign) -> Added
     ensures { OnOk result (text.new.items ≡ text.old.items ++ text_of (sign_at m (i, sign))) }
@@ -28,7 +28,7 @@ fn push_sign_at(text: &mut Vec<u8>, m: Measures, i: usize, sign: Sign) -> Added
     push_text_at(text, 7, b"dim", 41, y + 12, meaning(sign))
 }
 
-/// Adds the signs of the picture with what they mean, each in a line.
+/// Adds the signs of the picture with their meanings, one to a line.
 #[tactic(auto, using(crate::proofs::Each::steps), unfolding(crate::specs::Picture::signs))]
 pub(crate) fn push_signs(text: &mut Vec<u8>, sheet: &Sheet<'_>) -> Added
     ensures { OnOk result (text.new.items ≡ text.old.items ++ text_of (signs (page_on sheet.now))) }

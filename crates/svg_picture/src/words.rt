@@ -8,7 +8,7 @@ use crate::markup::{push_end, push_plain, push_start};
 use drawing::Added;
 use history_merge::OpKind;
 
-/// How round the corners of a bar are.
+/// Returns the rounding of a bar's corners.
 pub(crate) fn corner(kind: OpKind) -> u128
     ensures { result ≡ corner kind }
 {
@@ -18,7 +18,7 @@ pub(crate) fn corner(kind: OpKind) -> u128
     }
 }
 
-/// How to read bars and rows, each line with its line feed.
+/// The legend of bars and rows, each line with its line feed.
 pub(crate) const READING: &[u8] =
     b"A bar reaches from the call (its top) to the return (its bottom).\n\
 Time runs down, one row for each call and each return.\n";

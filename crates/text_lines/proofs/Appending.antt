@@ -1,4 +1,4 @@
--- Bytes that are written in turn.
+-- Bytes written in turn.
 use Rattle.text_lines.proofs.Common.{take_rest, ◌≡◌, ℕ, ◌+◌, ◌-◌, ◌<◌, Bool, get_or, ◌∷◌, ◌||◌, ◌&&◌, not, List, []}
 use Rattle.text_lines.proofs.Common.{◌++◌, length, take, drop, Option, append-nil, append_assoc, sym, ◌∙◌, ap, subst}
 use Rattle.text_lines.proofs.Common.{inl, inr, Ok, Err, ◌==◌, OnOk, Result, Appends, Keeps, flat_map, Appends-trans}
@@ -8,7 +8,7 @@ use Rattle.std.proofs.KnownBytes.{Appends-kept, Keeps-trans, append_known-moved}
 use Rattle.std.proofs.lemmas.List.{take_more}
 use Rattle.text_lines.specs.Writing.{Puts}
 
--- what holds anyway holds if a call succeeded
+-- a fact that holds anyway holds if a call succeeded
 pub on_ok : {T E : Type 0} (r : Result T E) (P : Type 0) → P → OnOk r P
 on_ok (Ok x) P p = p
 on_ok (Err e) P p = tt
@@ -35,7 +35,7 @@ pub goes_on : (piece : List ℕ) (done n : ℕ) (a b c : Option (List ℕ)) → 
 goes_on piece done n a b c before now =
     subst (Appends a c) (ap (λ (r : List ℕ). take done piece ++ take n r) (take_rest piece done) ∙ sym (take-add done n piece)) (Appends-trans a b c _ _ before now)
 
--- a write that took some bytes refuses nothing
+-- a write that took some bytes doesn't refuse
 pub no_refusal : (before after first : Bool) (n : ℕ) (piece : List ℕ) → after ≡ (before || ((n == 0) && not (length piece == 0))) → (n ≡ 0 → ⊥)
     → before ≡ first → after ≡ first
 no_refusal before after first n piece e some same =
@@ -46,7 +46,7 @@ no_refusal before after first n piece e some same =
 
 -- ---- a text in several pieces
 
--- a prefix of the first text is a prefix of both
+-- a prefix of the first text is a prefix of both texts
 pub front_first : (a b : Option (List ℕ)) (xs ys : List ℕ) → AppendsFront a b xs → AppendsFront a b (xs ++ ys)
 front_first a b xs ys h = record {
   front = h.front;
@@ -55,7 +55,7 @@ front_first a b xs ys h = record {
   written = h.written;
 }
 
--- a text is appended, and then a prefix of the next
+-- a text is appended, and then a prefix of the next one
 pub front_after : (a b c : Option (List ℕ)) (xs ys : List ℕ) → Appends a b xs → AppendsFront b c ys → AppendsFront a c (xs ++ ys)
 front_after a b c xs ys h k = record {
   front = xs ++ k.front;
@@ -64,7 +64,7 @@ front_after a b c xs ys h k = record {
   written = Appends-trans a b c xs k.front h k.written;
 }
 
--- two texts are put in turn
+-- two texts are written in turn
 pub Puts-append : (a b c : Option (List ℕ)) (kept mid rest xs ys : List ℕ) → Puts a b kept mid xs → Puts b c mid rest ys → Puts a c kept rest (xs ++ ys)
 Puts-append a b c kept mid rest xs ys h k = record {
   out = h.out ++ k.out;
@@ -73,28 +73,28 @@ Puts-append a b c kept mid rest xs ys h k = record {
   written = Appends-trans a b c h.out k.out h.written k.written;
 }
 
--- the first text is put, and then a prefix of what is held back and the second goes out
+-- the first text is written, and then a prefix of the bytes held back and of the second text
 pub front_next : (a b c : Option (List ℕ)) (kept mid xs ys : List ℕ) → Puts a b kept mid xs → AppendsFront b c (mid ++ ys)
     → AppendsFront a c (kept ++ (xs ++ ys))
 front_next a b c kept mid xs ys h k =
     let whole = sym (append_assoc h.out mid ys) ∙ ap (λ (r : List ℕ). r ++ ys) (sym h.whole) ∙ append_assoc kept xs ys in
     subst (AppendsFront a c) whole (front_after a b c h.out (mid ++ ys) h.written k)
 
--- ---- a text for each of a list
+-- ---- a text for each element of a list
 
 module _ {X : Type 0} (f : X → List ℕ) where
-  -- the texts of one item more are those of the items before it, and its own
+  -- the texts of one more item are those of the items before it and its own
   pub flat_map-more : (xs : List X) (i : ℕ) (d : X) → i < length xs → flat_map f (take (i + 1) xs) ≡ flat_map f (take i xs) ++ f (get_or xs i d)
   flat_map-more xs i d within = ap (flat_map f) (take_more xs i d within) ∙ flat_map-append f (take i xs) (get_or xs i d ∷ [])
       ∙ ap (λ (r : List ℕ). flat_map f (take i xs) ++ r) (append-nil (f (get_or xs i d)))
 
-  -- the texts of a front and of the rest are those of all
+  -- the texts of the first items and of the rest are those of all
   pub flat_map-parts : (xs : List X) (i : ℕ) → flat_map f (take i xs) ++ flat_map f (drop i xs) ≡ flat_map f xs
   flat_map-parts xs i = sym (flat_map-append f (take i xs) (drop i xs)) ∙ ap (flat_map f) (take-append-drop i xs)
 
 -- ---- the beginning and the end of a text
 
--- more is kept back
+-- more bytes are held back
 pub Puts-last : (a b : Option (List ℕ)) (kept mid rest xs ys : List ℕ) → rest ≡ mid ++ ys → Puts a b kept mid xs → Puts a b kept rest (xs ++ ys)
 Puts-last a b kept mid rest xs ys is h = record {
   out = h.out;
@@ -102,18 +102,18 @@ Puts-last a b kept mid rest xs ys is h = record {
   written = h.written;
 }
 
--- what is kept back goes out
+-- the bytes held back are written
 pub puts_all : (a b c : Option (List ℕ)) (kept text : List ℕ) → Puts a b [] kept text → Appends b c kept → Appends a c text
 puts_all a b c kept text h k = subst (Appends a c) (sym h.whole) (Appends-trans a b c h.out kept h.written k)
 
--- a prefix of what is held back goes out
+-- a prefix of the bytes held back is written
 pub puts_front : (a b c : Option (List ℕ)) (kept text : List ℕ) → Puts a b [] kept text → AppendsFront b c kept → AppendsFront a c text
 puts_front a b c kept text h k = subst (AppendsFront a c) (sym h.whole) (front_after a b c h.out kept h.written k)
 
--- ---- bytes that a sink keeps back, and passes on in turn
+-- ---- bytes that a sink holds back, and passes on in turn
 
 module _ (first a b : Option (List ℕ)) (all kept : List ℕ) (at : ℕ) (known : Keeps (append_known first all) (append_known a (drop at kept))) where
-  -- the inner sink took some of them
+  -- the inner sink took some of the bytes
   pub some_passed_on : (n : ℕ) → (drop n (drop at kept) ≡ drop (at + n) kept) → Appends a b (take n (take (length kept - at) (drop at kept)))
       → Keeps (append_known first all) (append_known b (drop (at + n) kept))
   some_passed_on n later now =

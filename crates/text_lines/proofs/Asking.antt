@@ -1,4 +1,4 @@
--- What a sink was asked, one call after another.
+-- Calls on a sink, one after another.
 use Rattle.text_lines.proofs.Common.{◌≡◌, ℕ, zero, suc, ◌&&◌, not, Bool, List, length, refl, sym, subst, inl, inr}
 use Rattle.text_lines.proofs.Common.{◌==◌, if◌then◌else◌, eqb_tells, Asked, IsWritten, IsRefused}
 use Rattle.text_lines.specs.Writing.{Took, Refused, TakesTimes}
@@ -18,20 +18,20 @@ module _ {S : Type 0} (transition : S → Asked → S → Type 0) where
         | inr h ↦ subst (λ (t : Bool). transition a (if t && not (length piece == 0) then Refused else Took) b) h.0 asked
       ]
 
-  -- two bodies that only write, one after the other
+  -- two bodies that only write, in turn
   pub written_then : (a b c : S) → IsWritten transition a b → IsWritten transition b c → IsWritten transition a c
   written_then a b c before after =
       let both = takes_then before.calls after.calls a b c before.taken after.taken in
       record { calls = both.0; taken = both.1 }
 
-  -- bytes were taken once more
+  -- the sink took bytes once more
   pub written_more : (a b c : S) → IsWritten transition a b → transition b Took c → IsWritten transition a c
   written_more a b c before last = written_then a b c before (record { calls = 1; taken = (c, last, refl) })
 
-  -- a call is refused after bytes were taken
+  -- a call is refused after the sink took bytes
   pub refused_last : (a b c : S) → IsWritten transition a b → transition b Refused c → IsRefused transition a c
   refused_last a b c before last = record { before = b; written = before; refused = last }
 
-  -- a body that only writes, and then one that is refused
+  -- a body that only writes, and then one whose call is refused
   pub refused_then : (a b c : S) → IsWritten transition a b → IsRefused transition b c → IsRefused transition a c
   refused_then a b c before after = record { before = after.before; written = written_then a b after.before before after.written; refused = after.refused }

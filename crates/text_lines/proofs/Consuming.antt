@@ -11,13 +11,13 @@ some_input Unknown = (over EndOfInput, tt)
 some_input (UnlessFailed bytes) = (record { bytes = bytes; ending = EndOfInput }, ([], sym (append-nil bytes), λ _. refl))
 some_input (Exactly a) = (a, refl)
 
--- of known bytes some were given
+-- some of the known bytes were given
 pub exactly : (x y : Ahead) (given : List ℕ) → x.bytes ≡ given ++ y.bytes → y.ending ≡ x.ending → Gives (Exactly x) (Exactly y) given
 exactly x y given front same = record {
   before = λ a is. subst (λ (b : Ahead). after given b ≡ x) (sym is) (ap₂ (λ bytes ending. record { bytes = bytes; ending = ending }) (sym front) same);
 }
 
--- what a read of std gives
+-- the bytes that a read of std gives
 pub gives : (old new : Option (List ℕ)) (given : List ℕ) → Consumes old new given → Gives (known_of old) (known_of new) given
 gives None new given took = record { before = λ a may. tt }
 gives (Some xs) None given took = absurd took
@@ -29,7 +29,7 @@ gives (Some xs) (Some ys) given took = record {
   );
 }
 
--- at a failure the known bytes are kept
+-- a failed read gives no byte
 pub keeps_give : (old new : Option (List ℕ)) → Keeps old new → Gives (known_of old) (known_of new) []
 keeps_give None new kept = gives None new [] tt
 keeps_give (Some xs) None kept = absurd kept

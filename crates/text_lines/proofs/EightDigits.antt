@@ -1,4 +1,4 @@
--- Digits that are read eight at a time.
+-- Digits read eight at a time.
 use Rattle.text_lines.proofs.Common.{◌≡◌, ℕ, ◌+◌, ◌-◌, ◌*◌, ◌/◌, ◌^◌, ◌<◌, ◌≤◌, List, [], ◌∷◌, ◌++◌, length, map}
 use Rattle.text_lines.proofs.Common.{take, drop, get_or, arith, ap, sym, ◌∙◌, refl, inl, inr, length-drop}
 use Rattle.text_lines.proofs.Common.{is_ascii_digit, w64, from_le_bytes, decimal, digits_value, take-add, cases_lt}
@@ -42,7 +42,7 @@ module _ (xs : List ℕ) (word others count : ℕ) (eight : IsEightBytes xs) (is
     number : word ≡ number_l 256 xs
     number = is ∙ word_is xs eight
 
-    -- the flags tell how many digits there are
+    -- the flags show the number of digits
     pub counted : count ≡ digits_len xs
     unfolding lib.Count.count_trailing_zeros
     counted = elim (cases_lt 0 others) [
@@ -56,7 +56,7 @@ module _ (xs : List ℕ) (word others count : ℕ) (eight : IsEightBytes xs) (is
     pub most : count ≤ 8
     most = omega (arith, counted, prefix_len-le-length is_ascii_digit xs, eight.0)
 
-    -- shifted up, they have zeros before them
+    -- the digits, shifted up, have zeros before them
     pub valued : (shifted value : ℕ) → shifted ≡ lanes * 2 ^ (64 - 8 * count) % 2 ^ 64
         → ((ds : List ℕ) → IsEightDigits ds → shifted ≡ from_le_bytes w64 ds → value ≡ number_from_digits 10 ds) → value ≡ digits_value 10 (take count xs)
     valued shifted value shifted_are worth =
@@ -66,7 +66,7 @@ module _ (xs : List ℕ) (word others count : ℕ) (eight : IsEightBytes xs) (is
         let s = shifted_is xs count shifted eight (omega (arith, counted)) most up in
         worth s.0 s.1 (s.2 ∙ sym (word_is s.0 (s.1.0, digits_fit s.0 s.1.1))) ∙ s.3
 
--- digits at a place, with those that follow them
+-- digits at a place, and those that follow them
 pub more_digits : (bytes : List ℕ) (at count more value next : ℕ) → IsDigitsSoFar (drop at bytes) count value → IsDigitsSoFar (drop (at + count) bytes) more next
     → IsDigitsSoFar (drop at bytes) (count + more) (value * 10 ^ more + next)
 more_digits bytes at count more value next first behind =

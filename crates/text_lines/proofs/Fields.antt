@@ -9,16 +9,16 @@ use Rattle.std.specs.List.{onto_first, slice_split}
 abbrev is_space : ℕ → Bool
 is_space b = b == 32
 
--- bytes that are cut at each separator
+-- bytes split at each separator
 module _ (separator : ℕ) where
   abbrev parts : List ℕ → List (List ℕ)
   parts bytes = slice_split (λ b. b == separator) bytes
 
-  -- another byte is no separator
+  -- any other byte isn't a separator
   other_byte : (b : ℕ) → (b ≡ separator → ⊥) → (b == separator) ≡ false
   other_byte b other = elim (eqb_tells b separator) [ inl h ↦ absurd (other h.1) | inr h ↦ h.0 ]
 
-  -- if no separator stands there is one part
+  -- bytes without a separator are one part
   pub is_one_part : (bytes : List ℕ) → ((k : ℕ) → k < length bytes → get_or bytes k 0 ≡ separator → ⊥) → parts bytes ≡ bytes ∷ []
   is_one_part bytes none = slice_split_none (λ b. b == separator) bytes
       (All-from_get_or (λ b. (b == separator) ≡ false) bytes 0 (λ k h. other_byte (get_or bytes k 0) (none k h)))
@@ -36,7 +36,7 @@ module _ (separator : ℕ) where
       let split = slice_split_at (λ b. b == separator) front separator (drop (i + 1) bytes) clean (grind (arith, nat_tests)) in
       sym (ap parts whole) ∙ split ∙ ap (λ (r : List ℕ). front ∷ parts r) (sym (take_rest bytes (i + 1)))
 
--- a line has a first field
+-- each line has a first field
 pub has_field : (bytes : List ℕ) → (field : List ℕ) × (others : List (List ℕ)) × (fields_of bytes ≡ field ∷ others)
 has_field [] = ([], [], refl)
 has_field (b ∷ bytes) =

@@ -1,4 +1,4 @@
--- The front of bytes of which the beginning is known.
+-- The front of bytes whose beginning is known.
 use Rattle.text_lines.proofs.Common.{◌≡◌, ℕ, suc, ◌+◌, ◌<◌, List, [], ◌∷◌, ◌++◌, length, take, drop, true, false, not}
 use Rattle.text_lines.proofs.Common.{◌&&◌, cond, nat_lt, nat_le, arith, ap, ap₂, sym, ◌∙◌, refl, length-append}
 use Rattle.text_lines.proofs.Common.{append-nil, append_assoc, take-append_seam, list_all-append, nat_tests}
@@ -9,7 +9,7 @@ use Rattle.std.specs.List.{position_or_len}
 use Rattle.std.proofs.Math.Seq.{drop-append-add}
 use Rattle.text_lines.specs.Lines.{Whole, TooLong, Unfinished, Nothing, line, front_of, longest_line}
 
--- the first line feed stands after the bytes that have none
+-- the first line feed comes after bytes that have none
 place_after : (xs ys : List ℕ) → has_no_line_feed xs ≡ true → position_or_len is_line_feed (xs ++ ys) ≡ length xs + position_or_len is_line_feed ys
 place_after [] ys clean = sym (zero-add (position_or_len is_line_feed ys))
 place_after (x ∷ xs) ys clean =
@@ -19,14 +19,14 @@ place_after (x ∷ xs) ys clean =
       | false ↦ λ rest. omega (arith, place_after xs ys rest)
     ] clean
 
--- if the tests are known, the front is
+-- the front follows from the results of the tests
 front_by : (bytes : List ℕ) (p : ℕ) → position_or_len is_line_feed bytes ≡ p
     → front_of bytes ≡ (cond (nat_lt p (length bytes) && nat_le p longest_line) (Whole (take p bytes) (drop (p + 1) bytes))
     (cond (nat_lt longest_line (length bytes)) TooLong (cond (nat_lt 0 (length bytes)) Unfinished Nothing)))
 front_by bytes p e = ap (λ (q : ℕ). cond (nat_lt q (length bytes) && nat_le q longest_line) (Whole (take q bytes) (drop (q + 1) bytes))
     (cond (nat_lt longest_line (length bytes)) TooLong (cond (nat_lt 0 (length bytes)) Unfinished Nothing))) e
 
--- a whole line and what comes after it
+-- a whole line, and the bytes after it
 pub whole : (bytes more : List ℕ) → IsPartOfLine bytes → front_of (line bytes ++ more) ≡ Whole bytes more
 whole bytes more part =
     let all = bytes ++ 10 ∷ more in
@@ -36,7 +36,7 @@ whole bytes more part =
     ap front_of (append_assoc bytes (10 ∷ []) more) ∙ front_by all (length bytes) place
     ∙ rw (within, short) (ap₂ Whole (take-append_seam bytes (10 ∷ more)) (drop-append-add bytes (10 ∷ more) 1))
 
--- some bytes of a line, and no more, are less than a line
+-- a part of a line and no more is less than a line
 pub front_unfinished : (bytes : List ℕ) → IsPartOfLine bytes → 0 < length bytes → front_of bytes ≡ Unfinished
 front_unfinished bytes part some =
     let place : position_or_len is_line_feed (bytes ++ []) ≡ length bytes + 0 = place_after bytes [] part.one in
@@ -46,7 +46,7 @@ front_unfinished bytes part some =
     let more : nat_lt 0 (length bytes) ≡ true = grind (arith, nat_tests, some) in
     front_by bytes (length bytes) here ∙ rw (past, few, more) refl
 
--- one byte more than a line may have is too long
+-- one more byte than a line may have is too long
 pub front_too_long : (given : List ℕ) (b : ℕ) (more : List ℕ) → IsPartOfLine given → length given ≡ longest_line → is_line_feed b ≡ false
     → front_of ((given ++ b ∷ []) ++ more) ≡ TooLong
 front_too_long given b more part full other =

@@ -1,12 +1,9 @@
--- The way of the argument, from bytes to lines and back:
--- Consuming, Fronts: bytes that are taken in turn, and the front of bytes of which the beginning is known.
--- Digits, Numbers, Fields: numbers and words, read as they are spelled, and how long they are; the fields of a line.
--- Tables: lines that are judged by a table of their forms.
--- Scanning: what stands at the front, found in one pass.
--- EightDigits: digits that are read eight at a time.
--- MemoryOrNot: out of memory, and the other faults.
--- Appending, Asking, Putting: bytes that are written in turn and kept back, what a sink was asked, and both together.
--- WrittenLines: what is written of fields, numbers and lines is read back.
+-- How the argument goes, from bytes to lines and back: Consuming, Fronts: bytes taken in turn, and the front of bytes
+-- whose beginning is known. Digits, Numbers, Fields: numbers and words read as they are spelled, and their length;
+-- the fields of a line. Tables: lines parsed by a table of their forms. Scanning: the front of bytes, found in one
+-- pass. EightDigits: digits read eight at a time. MemoryOrNot: out of memory, and the other faults. Appending,
+-- Asking, Putting: bytes written in turn and held back, calls on a sink, and both together. WrittenLines: written
+-- fields, numbers and lines are read back.
 mod Common
 pub mod Digits
 pub mod Fields

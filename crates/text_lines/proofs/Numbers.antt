@@ -8,17 +8,17 @@ use Rattle.std.proofs.lemmas.Slice.Eq.{bytes_eq-Decides}
 use Rattle.std.proofs.lemmas.Str.Parse.{IsDigitsTest}
 use Rattle.std.proofs.lemmas.Fmt.{decimal-digits_value}
 
--- which branch a test took
+-- the branch that a test took
 pub chosen : {X : Type 0} (b : Bool) (x y z : X) → cond b x y ≡ z → ((b ≡ true) × (x ≡ z)) ⊎ ((b ≡ false) × (y ≡ z))
 chosen true x y z e = inl (refl, e)
 chosen false x y z e = inr (refl, e)
 
--- if two hold together, each holds
+-- if a conjunction holds, so does each part
 pub both : (a b : Bool) → (a && b) ≡ true → (a ≡ true) × (b ≡ true)
 both true b e = (refl, e)
 both false b e = absurd (cc)
 
--- what comes of two steps without a fault comes of each
+-- if two steps give no fault, neither does each
 pub bind_ok : {A B : Type 0} (r : Result A TextFault) (f : A → Result B TextFault) (y : B) → (r >>= f) ≡ Ok y → (x : A) × (r ≡ Ok x) × (f x ≡ Ok y)
 bind_ok (Ok x) f y e = (x, refl, e)
 bind_ok (Err d) f y e = absurd (cc)
@@ -29,7 +29,7 @@ text_is xs ys e = (bytes_eq-Decides xs ys).0 e
 
 -- ---- numbers
 
--- the test of digits decides them
+-- the test of digits decides whether all are digits
 pub digits_test : IsDigitsTest (λ ds. list_all is_ascii_digit ds ≡ true)
 digits_test = search rules
 
@@ -40,7 +40,7 @@ number_spelled field e small =
     let q = both (list_all is_ascii_digit field) _ p.1 in
     sym (decimal-digits_value (numerals_by_value _ digits_test) field q.0 (grind (arith, nat_tests, p.0)) (λ lead. grind (arith, nat_tests, p.0, q.1)) small)
 
--- what is read from a number field is the number that is written so, and not too great
+-- a number field that is read is the written number, and not too great
 pub number_ok : (n greatest : ℕ) (field : List ℕ) (v : ℕ) → greatest < 2 ^ 64 → number_in n greatest field ≡ Ok v → (field ≡ decimal v) × (v ≤ greatest)
 number_ok n greatest field v small e =
     elim (chosen (is_number field) _ _ _ e) [
@@ -54,7 +54,7 @@ number_ok n greatest field v small e =
       | inr h ↦ absurd (cc (h.1))
     ]
 
--- a number in a range, read in the same way
+-- a number field in a range is read as the written number
 pub between_ok : (n least greatest : ℕ) (field : List ℕ) (v : ℕ) → greatest < 2 ^ 64 → number_between n least greatest field ≡ Ok v
     → (field ≡ decimal v) × (least ≤ v) × (v ≤ greatest)
 between_ok n least greatest field v small e =
@@ -68,7 +68,7 @@ between_ok n least greatest field v small e =
       | inr h ↦ absurd (cc (h.1))
     ]
 
--- the number of a last line
+-- the number of a last line is read as the written number
 pub end_ok : (n k : ℕ) (field : List ℕ) (u : Unit {0}) → k < 2 ^ 64 → end_in n k field ≡ Ok u → field ≡ decimal k
 end_ok n k field u small e =
     elim (chosen (is_number field) _ _ _ e) [

@@ -1,4 +1,4 @@
--- Texts that are written to a sink, one after another.
+-- Texts written to a sink in turn.
 use Rattle.text_lines.proofs.Common.{or-true, ◌≡◌, ℕ, ◌+◌, ◌<◌, Bool, ◌||◌, List, [], ◌++◌, length, take, drop}
 use Rattle.text_lines.proofs.Common.{get_or, Option, sym, ◌∙◌, ap, subst, append_assoc, Ok, Err, OnOk, Result}
 use Rattle.text_lines.proofs.Common.{Appends, flat_map, Appends-trans, or-false, Asked, AppendsFront, TakesAll}
@@ -19,13 +19,13 @@ module _ {S : Type 0} (contents : S → Option (List ℕ)) (has_refused : S → 
   abbrev Some : List ℕ → List ℕ → List ℕ → S → S → Type 0
   Some kept rest text old new = TakesSome contents has_refused transition kept rest text old new
 
-  -- ---- a prefix
+  -- ---- a prefix of a text
 
-  -- a prefix of a text is one of a longer text
+  -- a prefix of a text is a prefix of a longer one
   pub longer_front : (xs ys : List ℕ) (a b : S) → Front xs a b → Front (xs ++ ys) a b
   longer_front xs ys a b h = record { bytes = front_first (contents a) (contents b) xs ys h.bytes; asked = h.asked; refused = h.refused }
 
-  -- what the exit by `?` of a call that wrote a prefix says
+  -- leaving by `?` after a call that wrote a prefix
   pub refused_text : {T E : Type 0} (Q : E → Type 0) (r : Result T E) (text : List ℕ) (a b : S) → IsErrAnd r Q → Front text a b
       → Writes contents has_refused transition text a b r
   refused_text Q (Ok x) text a b is h = absurd is
@@ -33,7 +33,7 @@ module _ {S : Type 0} (contents : S → Option (List ℕ)) (has_refused : S → 
 
   -- ---- whole texts
 
-  -- two texts in turn
+  -- two texts are written in turn
   pub all_then : (xs ys : List ℕ) (a b c : S) → All xs a b → All ys b c → All (xs ++ ys) a c
   all_then xs ys a b c h k = record {
     bytes = Appends-trans (contents a) (contents b) (contents c) xs ys h.bytes k.bytes;
@@ -41,7 +41,7 @@ module _ {S : Type 0} (contents : S → Option (List ℕ)) (has_refused : S → 
     refused = k.refused ∙ h.refused;
   }
 
-  -- a text, and a prefix of the next
+  -- a text is written, and then a prefix of the next one
   pub front_then : (xs ys : List ℕ) (a b c : S) → All xs a b → Front ys b c → Front (xs ++ ys) a c
   front_then xs ys a b c h k = record {
     bytes = front_after (contents a) (contents b) (contents c) xs ys h.bytes k.bytes;
@@ -49,7 +49,7 @@ module _ {S : Type 0} (contents : S → Option (List ℕ)) (has_refused : S → 
     refused = k.refused;
   }
 
-  -- a text, and then what a call writes
+  -- a text is written, and then that of a call
   pub writes_then : {T E : Type 0} (r : Result T E) (xs ys : List ℕ) (a b c : S) → All xs a b → Writes contents has_refused transition ys b c r
       → Writes contents has_refused transition (xs ++ ys) a c r
   writes_then (Ok x) xs ys a b c h k = all_then xs ys a b c h k
@@ -65,7 +65,7 @@ module _ {S : Type 0} (contents : S → Option (List ℕ)) (has_refused : S → 
     refused = h.refused;
   }
 
-  -- two texts in turn
+  -- two texts are written in turn
   pub some_then : (kept mid rest xs ys : List ℕ) (a b c : S) → Some kept mid xs a b → Some mid rest ys b c → Some kept rest (xs ++ ys) a c
   some_then kept mid rest xs ys a b c h k = record {
     bytes = Puts-append (contents a) (contents b) (contents c) kept mid rest xs ys h.bytes k.bytes;
@@ -73,7 +73,7 @@ module _ {S : Type 0} (contents : S → Option (List ℕ)) (has_refused : S → 
     refused = k.refused ∙ h.refused;
   }
 
-  -- a text, and a prefix of what is held back then and of the next
+  -- a text is written, and then a prefix of the bytes held back and of the next text
   pub front_of_some : (kept mid xs ys : List ℕ) (a b c : S) → Some kept mid xs a b → Front (mid ++ ys) b c → Front (kept ++ (xs ++ ys)) a c
   front_of_some kept mid xs ys a b c h k = record {
     bytes = front_next (contents a) (contents b) (contents c) kept mid xs ys h.bytes k.bytes;
@@ -81,27 +81,28 @@ module _ {S : Type 0} (contents : S → Option (List ℕ)) (has_refused : S → 
     refused = k.refused;
   }
 
-  -- a text, and then what a call puts
+  -- a text is written, and then that of a call
   pub puts_then : {T E : Type 0} (r : Result T E) (kept mid rest xs ys : List ℕ) (a b c : S) → Some kept mid xs a b
       → PutsText contents has_refused transition mid rest ys b c r → PutsText contents has_refused transition kept rest (xs ++ ys) a c r
   puts_then (Ok x) kept mid rest xs ys a b c h k = some_then kept mid rest xs ys a b c h k
   puts_then (Err e) kept mid rest xs ys a b c h k = front_of_some kept mid xs ys a b c h k
 
-  -- what the exit by `?` of a call that put a prefix says, where more was to come
+  -- leaving by `?` after a call that wrote a prefix, when more was to come
   pub stops_before : {T E : Type 0} (Q : E → Type 0) (r : Result T E) (kept rest xs ys : List ℕ) (a b : S) → IsErrAnd r Q → Front (kept ++ xs) a b
       → PutsText contents has_refused transition kept rest (xs ++ ys) a b r
   stops_before Q (Ok x) kept rest xs ys a b is h = absurd is
   stops_before Q (Err e) kept rest xs ys a b is h =
       subst (λ (t : List ℕ). Front t a b) (append_assoc kept xs ys) (longer_front (kept ++ xs) ys a b h)
 
-  -- a text, and then the exit by `?` of a call that put a prefix of the next, where more was to come
+  -- a text is written, and then leaving by `?` after a call that wrote a prefix of the next one, when more was to
+  -- come
   pub stops_inside : {T E : Type 0} (Q : E → Type 0) (r : Result T E) (kept mid rest xs ys zs : List ℕ) (a b c : S) → Some kept mid xs a b → IsErrAnd r Q
       → Front (mid ++ ys) b c → PutsText contents has_refused transition kept rest (xs ++ (ys ++ zs)) a c r
   stops_inside Q (Ok x) kept mid rest xs ys zs a b c h is k = absurd is
   stops_inside Q (Err e) kept mid rest xs ys zs a b c h is k = front_of_some kept mid xs (ys ++ zs) a b c h
       (subst (λ (t : List ℕ). Front t b c) (append_assoc mid ys zs) (longer_front (mid ++ ys) zs b c k))
 
-  -- a text that begins with what is held back
+  -- a text that begins with the bytes held back
   pub puts_after : {T E : Type 0} (r : Result T E) (kept rest front xs : List ℕ) (a b : S) → kept ≡ front
       → PutsText contents has_refused transition kept rest xs a b r → PutsText contents has_refused transition [] rest (front ++ xs) a b r
   puts_after (Ok x) kept rest front xs a b is h = record {
@@ -111,9 +112,9 @@ module _ {S : Type 0} (contents : S → Option (List ℕ)) (has_refused : S → 
   }
   puts_after (Err e) kept rest front xs a b is h = subst (λ (r : List ℕ). Front (r ++ xs) a b) is h
 
-  -- ---- what is held back goes out last
+  -- ---- the bytes held back are written last
 
-  -- all of it, or a prefix
+  -- all bytes held back are written, or a prefix of them
   pub goes_out : {T E : Type 0} (r : Result T E) (kept text : List ℕ) (a b c : S) → Some [] kept text a b
       → Writes contents has_refused transition kept b c r → Writes contents has_refused transition text a c r
   goes_out (Ok x) kept text a b c h k = record {
@@ -127,16 +128,16 @@ module _ {S : Type 0} (contents : S → Option (List ℕ)) (has_refused : S → 
     refused = k.refused;
   }
 
-  -- ---- a text for each of a list
+  -- ---- a text for each element of a list
 
   module _ {X : Type 0} (f : X → List ℕ) where
-    -- one more of them is put
+    -- one more text is held back or written
     pub one_more_put : (xs : List X) (i : ℕ) (d : X) (kept mid rest : List ℕ) (a b c : S) → i < length xs → Some kept mid (flat_map f (take i xs)) a b
         → Some mid rest (f (get_or xs i d)) b c → Some kept rest (flat_map f (take (i + 1) xs)) a c
     one_more_put xs i d kept mid rest a b c within before now = subst (λ (t : List ℕ). Some kept rest t a c) (sym (flat_map-more f xs i d within))
         (some_then kept mid rest _ _ a b c before now)
 
-    -- some are put, and a prefix of the next goes out
+    -- some texts are held back or written, and then a prefix of the next one is written
     pub stops_at_next : {T E : Type 0} (Q : E → Type 0) (r : Result T E) (xs : List X) (i : ℕ) (d : X) (kept mid rest : List ℕ) (a b c : S) → i < length xs
         → Some kept mid (flat_map f (take i xs)) a b → IsErrAnd r Q → Front (mid ++ f (get_or xs i d)) b c
         → PutsText contents has_refused transition kept rest (flat_map f xs) a c r
@@ -145,13 +146,13 @@ module _ {S : Type 0} (contents : S → Option (List ℕ)) (has_refused : S → 
         (stops_before Q r kept rest (flat_map f (take (i + 1) xs)) (flat_map f (drop (i + 1) xs)) a c is
         (subst (λ (t : List ℕ). Front (kept ++ t) a c) (sym (flat_map-more f xs i d within)) (front_of_some kept mid _ _ a b c before now)))
 
-    -- one more of them is written
+    -- one more text is written
     pub one_more_written : (xs : List X) (i : ℕ) (d : X) (a b c : S) → i < length xs → All (flat_map f (take i xs)) a b → All (f (get_or xs i d)) b c
         → All (flat_map f (take (i + 1) xs)) a c
     one_more_written xs i d a b c within before now = subst (λ (t : List ℕ). All t a c) (sym (flat_map-more f xs i d within))
         (all_then _ _ a b c before now)
 
-    -- some are written, and a prefix of the next
+    -- some texts are written, and then a prefix of the next one
     pub stops_in_next : {T E : Type 0} (Q : E → Type 0) (r : Result T E) (xs : List X) (i : ℕ) (d : X) (a b c : S) → i < length xs
         → All (flat_map f (take i xs)) a b → IsErrAnd r Q → Front (f (get_or xs i d)) b c
         → Writes contents has_refused transition (flat_map f xs) a c r
@@ -160,7 +161,7 @@ module _ {S : Type 0} (contents : S → Option (List ℕ)) (has_refused : S → 
         (ap (λ (t : List ℕ). t ++ flat_map f (drop (i + 1) xs)) (sym (flat_map-more f xs i d within)) ∙ flat_map-parts f xs (i + 1))
         (longer_front _ (flat_map f (drop (i + 1) xs)) a c (front_then _ _ a b c before now)))
 
-  -- ---- what holds of the result alone
+  -- ---- facts about the result alone
 
   pub bytes_if_ok : {T E : Type 0} (r : Result T E) (text : List ℕ) (a b : S) → Writes contents has_refused transition text a b r
       → OnOk r (Appends (contents a) (contents b) text)

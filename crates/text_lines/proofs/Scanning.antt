@@ -1,4 +1,4 @@
--- What stands at the front, found in one pass.
+-- The front of bytes, found in one pass.
 use Rattle.text_lines.proofs.Common.{or-true, ◌≡◌, ℕ, ◌-◌, ◌^◌, ◌<◌, ◌≤◌, List, ◌++◌, length, take, drop, get_or, Bool, true}
 use Rattle.text_lines.proofs.Common.{false, ◌||◌, not, nat_lt, arith, ap, sym, ◌∙◌, refl, inl, inr, ◌==◌, decimal}
 use Rattle.text_lines.proofs.Common.{is_ascii_digit, list_all, w64, from_le_bytes, nat_tests}
@@ -24,7 +24,7 @@ number_is bytes count within digits some lead =
     let first : get_or (take count bytes) 0 0 ≡ get_or bytes 0 0 = get_or-take count bytes 0 0 some in
     rw (any, digits, long, first) (by_count count (get_or bytes 0 0) lead)
 
--- digits without a leading zero are the number that stands there
+-- digits without a leading zero are the number there
 pub number_stands : (bytes : List ℕ) (count value : ℕ) → IsDigitsSoFar bytes count value → 0 < count → (1 < count → get_or bytes 0 0 ≡ 48 → ⊥)
     → value < 2 ^ 64 → bytes ≡ decimal value ++ take (length bytes - count) (drop count bytes)
 number_stands bytes count value so_far some lead small =
@@ -33,13 +33,13 @@ number_stands bytes count value so_far some lead small =
     let text : field ≡ decimal value = spelled ∙ ap decimal (sym so_far.value_is) in
     sym (take-append-drop count bytes) ∙ ap (λ (f : List ℕ). f ++ drop count bytes) text ∙ ap (λ (r : List ℕ). decimal value ++ r) (sym (take_rest bytes count))
 
--- ---- if no number stands there
+-- ---- no number is there
 
 by_bool : {A B : Type 0} (b : Bool) → (b ≡ true → A) → (b ≡ false → B) → MatchBool b A B
 by_bool true held failed = held refl
 by_bool false held failed = failed refl
 
--- eight bytes are the same if they make one number
+-- eight bytes are equal if they make the same number
 pub same_eight : (xs ys : List ℕ) (m n : ℕ) → length xs ≡ 8 → length ys ≡ 8 → ((i : ℕ) → get_or xs i 0 < 256) → ((i : ℕ) → get_or ys i 0 < 256)
     → m ≡ from_le_bytes w64 xs → n ≡ from_le_bytes w64 ys → MatchBool (m == n) (xs ≡ ys) (xs ≡ ys → ⊥)
 same_eight xs ys m n xs_long ys_long xs_fit ys_fit m_is n_is =

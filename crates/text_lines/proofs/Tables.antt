@@ -1,4 +1,5 @@
--- Lines by tables of their forms: what is written is read back, and what is read was written so.
+-- Lines parsed by tables of their forms: written lines are read back, and lines that are read were written in this
+-- way.
 use Rattle.text_lines.proofs.Common.{◌≡◌, ℕ, zero, suc, ◌+◌, ◌<◌, ◌≤◌, ◌^◌, List, [], ◌∷◌, ◌++◌, length, map, drop}
 use Rattle.text_lines.proofs.Common.{get_or, Bool, true, false, ◌&&◌, cond, arith, ap, ap₂, sym, subst, ◌∙◌, refl}
 use Rattle.text_lines.proofs.Common.{inl, inr, append-nil, Option, Some, None, Ok, nat_le, nat_lt, nat_eq}
@@ -26,7 +27,7 @@ after_numbers before later = later >>= λ numbers. Ok (before ++ numbers)
 
 -- ---- the fields of a line, one after another
 
--- from a place on there is a form
+-- there is a form at each place
 cut : (forms : List Field) (i : ℕ) → i < length forms → (form : FieldForm) × (others : List FieldForm) × (map form_of (drop i forms) ≡ form ∷ others)
 cut [] i within = absurd (omega (arith, within))
 cut (f ∷ fs) zero within = (form_of f, map form_of fs, refl)
@@ -51,12 +52,12 @@ no_numbers n [] = refl
 no_numbers n (Word word ∷ forms) = refl
 no_numbers n (Number least greatest ∷ forms) = refl
 
--- if no form or no field is left, no number is
+-- if no form or no field is left, no number is left
 pub numbers_are_over : (n : ℕ) (numbers : List ℕ) (forms : List Field) (i : ℕ) (left : Option (Bor (List ℕ)))
     → after_numbers numbers (numbers_in n (map form_of (drop i forms)) []) ≡ Ok numbers
 numbers_are_over n numbers forms i left = rw (no_numbers n (map form_of (drop i forms)), append-nil) refl
 
--- after the last form the numbers read are all
+-- after the last form all numbers are read
 pub numbers_are_all : (n : ℕ) (numbers : List ℕ) (forms : List Field) (i : ℕ) (fields : List (List ℕ)) → length forms ≤ i
     → after_numbers numbers (numbers_in n (map form_of (drop i forms)) fields) ≡ Ok numbers
 numbers_are_all n numbers forms i fields over = rw (drop_all i forms over, append-nil) refl
@@ -72,14 +73,14 @@ module _ {T : Type 0} where
   form_is_short (r ∷ rs) (suc i) row within short is =
       form_is_short rs i row (omega (arith, within)) (both (nat_le (length (map form_of r.1.now)) 5) _ short).1 is
 
--- ---- what is written is read back, and what is read was written so
+-- ---- written lines are read back, and lines that are read were written in this way
 
--- a number of 64 bits at most
+-- no number of this form has more than 64 bits
 abbrev pub has_bits : FieldForm → Bool
 has_bits (Word word) = true
 has_bits (Number least greatest) = nat_lt greatest (2 ^ 64)
 
--- the numbers of the fields that a form writes are read back
+-- the numbers that a form writes are read back
 pub numbers_back : (n : ℕ) (forms : List FieldForm) (numbers : List ℕ) → list_all has_bits forms ≡ true → AreOfForm forms numbers
     → numbers_in n forms (spelled forms numbers) ≡ Ok numbers
 numbers_back n [] [] small h = refl
@@ -91,7 +92,7 @@ numbers_back n (Number least greatest ∷ forms) (v ∷ vs) small h =
     let bits : greatest < 2 ^ 64 = grind (arith, nat_tests, p.0) in
     rw (between_read n least greatest v h.0 h.1 bits, numbers_back n forms vs p.1 h.2) refl
 
--- fields that a form writes with these numbers
+-- the fields are those that the form writes with these numbers
 pub record IsWrittenBy (forms : List FieldForm) (numbers : List ℕ) (fields : List (List ℕ)) : Type 0 where
   pub text : fields ≡ spelled forms numbers
   pub within : AreOfForm forms numbers
@@ -119,7 +120,7 @@ numbers_ok n (Number least greatest ∷ forms) (field ∷ fields) numbers fit sm
     (record { text = ap₂ (λ (x : List ℕ) (xs : List (List ℕ)). x ∷ xs) is.0 rest.text; within = (is.1, is.2, rest.within) })
 
 module _ {T : Type 0} (Q : T → List ℕ → List (List ℕ) → Type 0) where
-  -- what holds of the lines that the rows of a table write holds of what is read by it
+  -- a property of the lines that the rows of a table write holds of each line that is read
   pub parse_line_says : (n : ℕ) (table : Table T) (fields : List (List ℕ)) (said : T × List ℕ)
       → AllByRecursion (λ row. (numbers : List ℕ) → AreOfForm row.1 numbers → Q row.0 numbers (spelled row.1 numbers)) table
       → list_all (λ row. list_all has_bits row.1) table ≡ true → parse_line n table fields ≡ Ok said → Q said.0 said.1 fields
@@ -138,24 +139,24 @@ module _ {T : Type 0} (Q : T → List ℕ → List (List ℕ) → Type 0) where
 
 -- ---- lines
 
--- how many bytes a field has at most
+-- the maximum number of bytes of a field
 abbrev pub most_bytes : FieldForm → ℕ
 most_bytes (Word word) = length word
 most_bytes (Number least greatest) = if nat_lt greatest 100 then 2 else (if nat_lt greatest (10 ^ 12) then 12 else 20)
 
--- how many bytes fields with spaces between them have at most
+-- the maximum number of bytes of fields with spaces between them
 abbrev pub most_in_line : List FieldForm → ℕ
 most_in_line [] = 0
 most_in_line (form ∷ []) = most_bytes form
 most_in_line (form ∷ next ∷ forms) = most_bytes form + (1 + most_in_line (next ∷ forms))
 
--- two words differ at some place that both have
+-- two words differ at a place that both have
 abbrev pub differs : List ℕ → List ℕ → Bool
 differs [] ys = false
 differs (x ∷ xs) [] = false
 differs (x ∷ xs) (y ∷ ys) = if nat_eq y x then differs xs ys else true
 
--- no line of this form begins like a last one
+-- no line of this form begins as a last one
 abbrev pub begins_other : List FieldForm → Bool
 begins_other [] = false
 begins_other (Word word ∷ forms) = differs word end_word
@@ -166,7 +167,7 @@ abbrev pub is_field_form : FieldForm → Bool
 is_field_form (Word word) = list_all is_inner word
 is_field_form (Number least greatest) = nat_lt greatest (2 ^ 64)
 
--- what is written by this form is a line, and not a last one
+-- the fields that this form writes are a line, and not a last one
 abbrev pub is_line_form : List FieldForm → Bool
 is_line_form forms = begins_other forms && (list_all is_field_form forms && nat_le (most_in_line forms) 80)
 
@@ -258,7 +259,7 @@ begins_so (Number least greatest ∷ forms) (v ∷ vs) other all h =
     let rest = spaced_begins (decimal v) (spelled forms vs) in
     rw rest.1 (digits_begin_other (decimal v) rest.0 (decimal_nonempty v small) (all_digits v small))
 
--- what a form writes is a line
+-- the fields that a form writes are a line
 pub spelled_is_line : (forms : List FieldForm) (numbers : List ℕ) → is_line_form forms ≡ true → AreOfForm forms numbers → IsLineOf (spelled forms numbers)
 spelled_is_line [] numbers is h = absurd (cc (is))
 spelled_is_line (form ∷ forms) numbers is h =

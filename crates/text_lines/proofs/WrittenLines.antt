@@ -1,4 +1,4 @@
--- What is written of fields, numbers and lines is read back, whatever comes after it.
+-- Written fields, numbers and lines are read back, whatever comes after them.
 use Rattle.text_lines.proofs.Common.{or-true, ◌≡◌, ℕ, zero, suc, ◌^◌, ◌<◌, ◌≤◌, List, [], ◌∷◌, ◌++◌, length, Bool, true, false}
 use Rattle.text_lines.proofs.Common.{not, nat_lt, nat_le, nat_eq, arith, ap, ◌∙◌, refl, Ok, ◌==◌, decimal}
 use Rattle.text_lines.proofs.Common.{is_ascii_digit, AllByRecursion, list_all, digits_value, get_or, nat_tests}
@@ -13,18 +13,18 @@ use Rattle.text_lines.proofs.Numbers.{digits_test, both}
 
 -- ---- fields
 
--- a byte that ends neither a field nor a line
+-- a byte that isn't a space or a line feed
 abbrev pub is_inner : ℕ → Bool
 is_inner b = nat_lt 32 b
 
 abbrev is_space : ℕ → Bool
 is_space b = b == 32
 
--- bytes without a space and a line feed
+-- bytes without spaces and line feeds
 abbrev pub IsField : List ℕ → Type 0
 IsField bytes = list_all is_inner bytes ≡ true
 
--- what holds of bytes by one test holds by a weaker one
+-- a test of bytes implies a weaker one
 each_passes : (p q : ℕ → Bool) → ((b : ℕ) → p b ≡ true → q b ≡ true) → (bytes : List ℕ) → list_all p bytes ≡ true → list_all q bytes ≡ true
 each_passes p q weaker bytes all =
     list_all-from_AllPass q bytes (All-weaker (λ b. p b ≡ true) (λ b. q b ≡ true) weaker bytes (AllPass-from_list_all p bytes all))
@@ -68,20 +68,20 @@ is_number_decimal (suc v) small =
 value_decimal : (v : ℕ) → v < 2 ^ 64 → digits_value 10 (decimal v) ≡ v
 value_decimal v small = digits_value-decimal (numerals_by_value _ digits_test) v small
 
--- the digits of a number are read as it
+-- the digits of a number are read as that number
 pub number_read : (n greatest v : ℕ) → v ≤ greatest → greatest < 2 ^ 64 → number_in n greatest (decimal v) ≡ Ok v
 number_read n greatest v within small =
     let few : v < 2 ^ 64 = omega (arith, within, small) in
     let ok : nat_le v greatest ≡ true = grind (arith, nat_tests, within) in
     rw (is_number_decimal v few, value_decimal v few, ok) refl
 
--- a number that has a least one, written in the same way
+-- the digits of a number in a range are read as that number
 pub between_read : (n least greatest v : ℕ) → least ≤ v → v ≤ greatest → greatest < 2 ^ 64 → number_between n least greatest (decimal v) ≡ Ok v
 between_read n least greatest v more within small =
     let enough : nat_le least v ≡ true = grind (arith, nat_tests, more) in
     rw (number_read n greatest v within small, enough) refl
 
--- the number of the last line is read as it
+-- the number of a last line is read as that number
 pub end_read : (n k : ℕ) → k < 2 ^ 64 → end_in n k (decimal k) ≡ Ok tt
 end_read n k small =
     let same : (k == k) ≡ true = grind (arith, nat_tests) in
@@ -89,13 +89,13 @@ end_read n k small =
 
 -- ---- lines
 
--- a list of fields is a line, and its fields are read back
+-- the fields are a line, and are read back
 pub record IsLineOf (fields : List (List ℕ)) : Type 0 where
   pub part : IsPartOfLine (spaced fields)
   pub back : fields_of (spaced fields) ≡ fields
   pub other : begins_as_end (spaced fields) ≡ false
 
--- such fields are those of a line
+-- fields without spaces and line feeds are a line
 pub line_of_fields : (f : List ℕ) (fs : List (List ℕ)) → IsField f → AllByRecursion IsField fs → length (spaced (f ∷ fs)) ≤ 80
     → begins_as_end (spaced (f ∷ fs)) ≡ false → IsLineOf (f ∷ fs)
 line_of_fields f fs one all short other = record {

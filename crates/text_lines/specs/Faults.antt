@@ -1,4 +1,4 @@
--- The faults of texts: how they are printed, and out of memory apart from the rest.
+-- The names of faults of texts as they are printed, and out of memory apart from the rest.
 use Rattle.std.specs.Prelude.{ℕ, List, codes, Option, Some, None}
 use Rattle.text_lines.specs.declared.fault.TextFault.{TextFault}
 use Rattle.text_lines.specs.declared.fault.TextFault.TheVariants.{Read, Header, Line, Number, Limit, Count, Cut, Trailing, Memory}
@@ -22,7 +22,7 @@ line_in (Number n) = Some n
 line_in (Limit n) = Some n
 line_in _ = None
 
--- one thing holds of out of memory, and another of each other fault
+-- one property holds for out of memory, another for each other fault
 abbrev pub MemoryOr : Type 0 → (TextFault → Type 0) → TextFault → Type 0
 MemoryOr Lacking IsFault Memory = Lacking
 MemoryOr Lacking IsFault fault = IsFault fault

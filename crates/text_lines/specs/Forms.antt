@@ -1,4 +1,4 @@
--- Lines by tables of their forms.
+-- Lines parsed by tables of their forms.
 use Rattle.std.specs.Prelude.{ℕ, ◌≤◌, ◌&&◌, nat_le, Bool, true, false, if◌then◌else◌, List, [], ◌∷◌, length, map, decimal, Option, Some, None, Ok, Err}
 use Rattle.std.specs.declared.result.Result.{Result}
 use Rattle.std.specs.Borrow.{Bor}
@@ -10,23 +10,23 @@ use Rattle.text_lines.specs.declared.forms.Field.{Field}
 use Rattle.text_lines.specs.declared.forms.Field.TheVariants as code
 use Rattle.text_lines.specs.Lines.{fields_of, number_between, ◌>>=◌}
 
--- what a field of a line is to be: this word, or a number from a least to a greatest
+-- the form of a field: this word, or a number in this range
 pub data FieldForm : Type 0 where
   Word : List ℕ → FieldForm
   Number : ℕ → ℕ → FieldForm
 
--- a table of lines: what a line of a form says, beside its numbers
+-- a table of the forms of lines, each with its item
 abbrev pub Table : Type 0 → Type 0
 Table T = List (T × List FieldForm)
 
 -- ---- what is read
 
--- a field is the word that its form says; a number is judged later
+-- a field is the word of its form; a number is judged later
 abbrev pub is_field_of : FieldForm → List ℕ → Bool
 is_field_of (Word word) field = bytes_eq field word
 is_field_of (Number least greatest) field = true
 
--- there are as many fields, and each is as its form says
+-- there is one field for each form
 abbrev pub fits : List FieldForm → List (List ℕ) → Bool
 fits [] [] = true
 fits [] (field ∷ fields) = false
@@ -40,7 +40,7 @@ numbers_in n (Number least greatest ∷ forms) (field ∷ fields) =
     number_between n least greatest field >>= λ v. numbers_in n forms fields >>= λ more. Ok (v ∷ more)
 numbers_in n _ _ = Ok []
 
--- what line n says, by the first form of a table that its fields fit, and its numbers
+-- the item of the first form of a table that the fields of line n fit, and its numbers
 abbrev pub parse_line : {T : Type 0} → ℕ → Table T → List (List ℕ) → Result (T × List ℕ) TextFault
 parse_line n [] fields = Err (Line n)
 parse_line n (row ∷ rows) fields =
@@ -54,25 +54,25 @@ spelled (Word word ∷ forms) numbers = word ∷ spelled forms numbers
 spelled (Number least greatest ∷ forms) (v ∷ numbers) = decimal v ∷ spelled forms numbers
 spelled _ _ = []
 
--- as many numbers as a form has, each in its range
+-- one number per field of the form, each in range
 abbrev pub AreOfForm : List FieldForm → List ℕ → Type 0
 AreOfForm [] [] = Unit {0}
 AreOfForm (Word word ∷ forms) numbers = AreOfForm forms numbers
 AreOfForm (Number least greatest ∷ forms) (v ∷ numbers) = (least ≤ v) × (v ≤ greatest) × AreOfForm forms numbers
 AreOfForm _ _ = ⊥
 
--- ---- tables of code
+-- ---- tables in code
 
--- what a field of code is to be
+-- the form of a field in code
 abbrev pub form_of : Field → FieldForm
 form_of (code.Word word) = Word word.now
 form_of (code.Number least greatest) = Number least greatest
 
--- what a row of a table of code says, and the form of its line
+-- a row of a table in code: its item, and the form of its line
 abbrev pub row_of : {T : Type 0} → T × Bor (List Field) → T × List FieldForm
 row_of row = (row.0, map form_of row.1.now)
 
--- the fields of the bytes that are left of a line
+-- the fields of the bytes that are left in a line
 abbrev pub fields_left : Option (Bor (List ℕ)) → List (List ℕ)
 fields_left None = []
 fields_left (Some bytes) = fields_of bytes.now

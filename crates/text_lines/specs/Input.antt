@@ -1,8 +1,8 @@
--- What a source has ahead, as contracts see it.
+-- The bytes that a source has ahead, as contracts see them.
 use Rattle.std.specs.Prelude.{◌≡◌, ℕ, ◌<◌, List, [], ◌++◌, length, take, ⊤, Option, None, Some, MatchResult}
 use Rattle.std.specs.declared.result.Result.{Result}
 
--- how what a source gives comes to its end: there is no more, or a read fails
+-- how the bytes of a source end: there are no more, or a read fails
 pub data Ending : Type 0 where
   EndOfInput : Ending
   Failure : Ending
@@ -12,19 +12,19 @@ pub record Ahead : Type 0 where
   pub bytes : List ℕ
   pub ending : Ending
 
--- what is known of what a source has ahead: nothing; these bytes, unless a read fails before their end; or all of it
+-- what is known about the bytes ahead: nothing; these bytes, unless a read fails before their end; or all of it
 pub data Known : Type 0 where
   Unknown : Known
   UnlessFailed : List ℕ → Known
   Exactly : Ahead → Known
 
--- as far as that is known, reads may give this
+-- reads may give this, as far as is known
 abbrev pub MayGive : Known → Ahead → Type 0
 MayGive Unknown a = ⊤
 MayGive (UnlessFailed bytes) a = (rest : List ℕ) × (bytes ≡ a.bytes ++ rest) × (a.ending ≡ EndOfInput → rest ≡ [])
 MayGive (Exactly known) a = a ≡ known
 
--- some input that the source may give is so: the one that is known, if it is known
+-- some input that the source may give has this property: the input itself, if it is known
 pub record OfInput (known : Known) (IsSo : Ahead → Type 0) : Type 0 where
   pub input : Ahead
   pub may : MayGive known input
@@ -34,7 +34,7 @@ pub record OfInput (known : Known) (IsSo : Ahead → Type 0) : Type 0 where
 abbrev pub after : List ℕ → Ahead → Ahead
 after bytes a = record { bytes = bytes ++ a.bytes; ending = a.ending }
 
--- no byte, and then this end
+-- no byte, and then this ending
 abbrev pub over : Ending → Ahead
 over ending = record { bytes = []; ending = ending }
 
@@ -42,12 +42,13 @@ over ending = record { bytes = []; ending = ending }
 pub record Gives (old new : Known) (given : List ℕ) : Type 0 where
   pub before : (a : Ahead) → MayGive new a → MayGive old (after given a)
 
--- a read gave the first n bytes of the piece at `Ok(n)`, none only at the end or with no room; at `Err` the bytes were over, by a failure
+-- `Ok(n)`: the first n bytes of the piece were given, none only at the end or without room; `Err`: the bytes ended
+-- with a failure
 abbrev pub ReadGives : {E : Type 0} → Known → Known → Result ℕ E → List ℕ → Type 0
 ReadGives old new r piece = MatchResult r (λ n. Gives old new (take n piece) × (n ≡ 0 → 0 < length piece → MayGive new (over EndOfInput)))
     (λ _. Gives old new [] × MayGive new (over Failure))
 
--- what is known of the bytes that a reader of std has left
+-- what is known about the bytes that a reader of std has left
 abbrev pub known_of : Option (List ℕ) → Known
 known_of None = Unknown
 known_of (Some bytes) = UnlessFailed bytes

@@ -1,4 +1,4 @@
--- What is written.
+-- Writing texts.
 use Rattle.std.specs.Prelude.{◌≡◌, ℕ, zero, suc, Bool, true, ◌==◌, ◌&&◌, not, if◌then◌else◌, is_err, List, ◌++◌, length, Option, Ok, Err}
 use Rattle.std.specs.declared.result.Result.{Result}
 use Rattle.std.specs.Io.KnownBytes.{Appends}
@@ -8,19 +8,19 @@ abbrev pub is_refusal : {E : Type 0} → Result ℕ E → List ℕ → Bool
 is_refusal (Ok n) piece = (n == 0) && not (length piece == 0)
 is_refusal (Err e) piece = true
 
--- ---- what a sink was asked
+-- ---- calls on a sink
 
--- how a call on a sink ended: it took bytes, it passed on what it held back, or it refused
+-- the outcome of a call on a sink: it took bytes, it passed on what it held back, or it refused
 pub data Asked : Type 0 where
   Took : Asked
   PassedOn : Asked
   Refused : Asked
 
--- how a write of this piece ended
+-- the outcome of a write of this piece
 abbrev pub asked_to_write : {E : Type 0} → Result ℕ E → List ℕ → Asked
 asked_to_write result piece = if is_refusal result piece then Refused else Took
 
--- how a flush ended
+-- the outcome of a flush
 abbrev pub asked_to_flush : {T E : Type 0} → Result T E → Asked
 asked_to_flush result = if is_err result then Refused else PassedOn
 
@@ -29,45 +29,45 @@ abbrev pub TakesTimes : {S : Type 0} → (S → Asked → S → Type 0) → ℕ 
 TakesTimes transition zero old new = old ≡ new
 TakesTimes {S} transition (suc n) old new = (next : S) × transition old Took next × TakesTimes transition n next new
 
--- the sink was asked to take bytes and took them, in any number of calls, and it was asked for nothing else
+-- the sink took bytes, in any number of calls, and there was no other call
 pub record IsWritten {S : Type 0} (transition : S → Asked → S → Type 0) (old new : S) : Type 0 where
   pub calls : ℕ
   pub taken : TakesTimes transition calls old new
 
--- calls took bytes, and then the sink refused; it was asked for nothing after that
+-- the sink took bytes, then refused, and there was no call after that
 pub record IsRefused {S : Type 0} (transition : S → Asked → S → Type 0) (old new : S) : Type 0 where
   pub before : S
   pub written : IsWritten transition old before
   pub refused : transition before Refused new
 
--- calls took bytes, and then the sink was flushed, once
+-- the sink took bytes, and then was flushed, once
 pub record IsFlushed {S : Type 0} (transition : S → Asked → S → Type 0) (old new : S) : Type 0 where
   pub before : S
   pub written : IsWritten transition old before
   pub flushed : transition before PassedOn new
 
--- what a call on a sink that holds bytes back asked of its inner sink
+-- the calls on the inner sink that a call on a sink that holds bytes back makes
 abbrev pub AsksInner : {S : Type 0} → (S → Asked → S → Type 0) → S → Asked → S → Type 0
 AsksInner transition old Took new = IsWritten transition old new
 AsksInner transition old PassedOn new = IsFlushed transition old new
 AsksInner transition old Refused new = IsRefused transition old new
 
--- ---- what came of it
+-- ---- the bytes written
 
--- the writer got a prefix of the text and no more
+-- the writer got a prefix of the text, and no more
 pub record AppendsFront (old new : Option (List ℕ)) (text : List ℕ) : Type 0 where
   pub front : List ℕ
   pub rest : List ℕ
   pub whole : text ≡ front ++ rest
   pub written : Appends old new front
 
--- the text comes after what is held back, and the writer got a prefix of both, so that the rest is held back now
+-- the text comes after the bytes held back, the writer got a prefix of both, and the rest is held back now
 pub record Puts (old new : Option (List ℕ)) (kept rest text : List ℕ) : Type 0 where
   pub out : List ℕ
   pub whole : kept ++ text ≡ out ++ rest
   pub written : Appends old new out
 
--- ---- a text that is written to a sink, seen as its contents, whether it has refused, and what its calls make of it
+-- ---- a text written to a sink, by its contents, whether it has refused, and its calls
 
 -- the sink took all of the text, in any number of calls
 pub record TakesAll {S : Type 0} (contents : S → Option (List ℕ)) (has_refused : S → Bool) (transition : S → Asked → S → Type 0)
@@ -76,26 +76,29 @@ pub record TakesAll {S : Type 0} (contents : S → Option (List ℕ)) (has_refus
   pub asked : IsWritten transition old new
   pub refused : has_refused new ≡ has_refused old
 
--- the sink took a prefix of the text, and then it refused
+-- the sink took a prefix of the text, and then refused
 pub record TakesFront {S : Type 0} (contents : S → Option (List ℕ)) (has_refused : S → Bool) (transition : S → Asked → S → Type 0)
     (text : List ℕ) (old new : S) : Type 0 where
   pub bytes : AppendsFront (contents old) (contents new) text
   pub asked : IsRefused transition old new
   pub refused : has_refused new ≡ true
 
--- a call that succeeds writes all of the text; one that fails writes a prefix, and the refusal is the last that it asked
+-- a call that succeeds writes all of the text; a call that fails writes a prefix of it, and its last call on the sink
+-- is the refused one
 abbrev pub Writes : {S T E : Type 0} → (S → Option (List ℕ)) → (S → Bool) → (S → Asked → S → Type 0) → List ℕ → S → S → Result T E → Type 0
 Writes contents has_refused transition text old new (Ok x) = TakesAll contents has_refused transition text old new
 Writes contents has_refused transition text old new (Err e) = TakesFront contents has_refused transition text old new
 
--- the text comes after what is held back; the sink took a prefix of both, in any number of calls, and the rest is held back now
+-- the text comes after the bytes held back; the sink took a prefix of both, in any number of calls, and the rest is
+-- held back now
 pub record TakesSome {S : Type 0} (contents : S → Option (List ℕ)) (has_refused : S → Bool) (transition : S → Asked → S → Type 0)
     (kept rest text : List ℕ) (old new : S) : Type 0 where
   pub bytes : Puts (contents old) (contents new) kept rest text
   pub asked : IsWritten transition old new
   pub refused : has_refused new ≡ has_refused old
 
--- a call that succeeds writes the text after what is held back, and may hold back the end; one that fails writes a prefix of both
+-- a call that succeeds writes the text after the bytes held back, and may hold back the end; a call that fails writes
+-- a prefix of both
 abbrev pub PutsText : {S T E : Type 0} → (S → Option (List ℕ)) → (S → Bool) → (S → Asked → S → Type 0) → List ℕ → List ℕ → List ℕ → S → S
     → Result T E → Type 0
 PutsText contents has_refused transition kept rest text old new (Ok x) = TakesSome contents has_refused transition kept rest text old new

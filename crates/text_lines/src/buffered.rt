@@ -1,4 +1,4 @@
-//! A sink that holds bytes back, so that another sink gets few large pieces.
+//! A sink that holds bytes back, so that another sink gets a few large pieces.
 ghost use Rattle.std.specs.Prelude.{◌≡◌, ◌≤◌, ◌<◌, ◌||◌, ◌==◌, ◌++◌, not, [], length, take, is_err, OnOk, OnErr};
 ghost use Rattle.std.specs.Io.KnownBytes.{Keeps, append_known};
 ghost use Rattle.text_lines.specs.Writing.{IsWritten, IsRefused, AsksInner};
@@ -7,10 +7,10 @@ use crate::sink::{TextSink, WriteFault};
 use crate::write_buffer::{BUFFER_LEN, WriteBuffer};
 use std::marker::Model;
 
-/// A sink that holds back up to 4,096 bytes, so that its inner sink gets them in few pieces.
+/// A sink that holds back up to 4,096 bytes, so that its inner sink gets them in a few pieces.
 ///
-/// It passes them on if there is no room for more and if it is flushed, and at no other time: what it holds when it
-/// is dropped is lost. The bytes lie in place, so it takes no memory.
+/// The bytes are passed on when there is no room for more, or when the sink is flushed, and at no other time: bytes
+/// that it holds when it is dropped are lost. They are held in place, so it takes no memory.
 #[derive(Drop)]
 pub struct Buffered<S: TextSink> {
     inner: S,
@@ -30,7 +30,7 @@ impl<S: TextSink> Model for Buffered<S> {
 }
 
 impl<S: TextSink> Buffered<S> {
-    /// Wraps a sink, and holds nothing back yet.
+    /// Wraps a sink. Nothing is held back yet.
     pub fn new(inner: S) -> Self
         ensures { result ≡ record { inner = inner; kept = []; room = 4096 } }
     {
@@ -41,7 +41,7 @@ impl<S: TextSink> Buffered<S> {
         }
     }
 
-    /// Returns the inner sink. What is held back is lost.
+    /// Returns the inner sink. Bytes that are held back are lost.
     pub fn into_inner(self) -> S
         ensures { result ≡ self.inner }
     {
@@ -53,7 +53,7 @@ impl<S: TextSink> Buffered<S> {
         inner
     }
 
-    /// Writes all that is held back.
+    /// Writes all bytes that are held back.
     fn pass_on(&mut self) -> Result<(), WriteFault>
         ensures empty { OnOk result (self.new.kept ≡ []) }
         ensures room { OnOk result (self.new.room ≡ 4096) }
@@ -73,7 +73,7 @@ impl<S: TextSink> Buffered<S> {
         Ok(())
     }
 
-    /// Makes room for a byte: if there is none, it writes all that is held back.
+    /// Makes room for a byte. If there is none, all bytes that are held back are written.
     fn make_room(&mut self) -> Result<(), WriteFault>
         ensures room { OnOk result (0 < self.new.room) }
         ensures bytes { Keeps (append_known (S.contents self.old.inner) self.old.kept) (append_known (S.contents self.new.inner) self.new.kept) }
@@ -87,7 +87,7 @@ impl<S: TextSink> Buffered<S> {
         self.pass_on()
     }
 
-    /// Holds back a prefix of the piece, as much as there is room for, and returns how many bytes.
+    /// Holds back a prefix of the piece, as long as there is room for. Returns its length.
     fn keep(&mut self, piece: &[u8]) -> usize
         requires { 0 < self.old.room }
         ensures bound { result ≤ length piece.now }

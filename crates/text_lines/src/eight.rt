@@ -13,13 +13,14 @@ const ZEROS: u64 = 0x3030_3030_3030_3030;
 /// All bits but the highest of each byte.
 const LOW_BITS: u64 = 0x7f7f_7f7f_7f7f_7f7f;
 
-/// What carries a byte from 10 on into its highest bit.
+/// Added to a byte, carries 10 and above into its highest bit.
 const TO_HIGH: u64 = 0x7676_7676_7676_7676;
 
 /// The highest bit of each byte.
 const HIGH_BITS: u64 = 0x8080_8080_8080_8080;
 
-/// Returns the number of eight digits, the first in the lowest byte: of pairs, of these pairs' pairs, and of all.
+/// Returns the number that eight digits spell, the first in the lowest byte. Combines digits to pairs, pairs to
+/// fours, and fours to eight.
 #[inline(always)]
 fn value_of_digits(word: u64) -> u64
     ensures { (digits : List ℕ) → IsEightDigits digits → word ≡ from_le_bytes w64 digits → result ≡ number_from_digits 10 digits }
@@ -30,7 +31,7 @@ fn value_of_digits(word: u64) -> u64
     outer.wrapping_add(inner) >> 32
 }
 
-/// Returns how many digits eight bytes begin with, and their value.
+/// Returns the number of digits that eight bytes begin with, and their value.
 #[inline(always)]
 fn digits_in(bytes: &[u8; 8]) -> (usize, u64)
     ensures digits { IsDigitsSoFar bytes.now result.0 result.1 }
@@ -45,7 +46,7 @@ fn digits_in(bytes: &[u8; 8]) -> (usize, u64)
     (count as usize, value_of_digits(lanes << (64 - 8 * count)))
 }
 
-/// Returns how many digits stand at this place, up to eight, and their value.
+/// Returns the number of digits at `at`, up to eight, and their value.
 #[inline(always)]
 fn eight_digits_at(bytes: &[u8], at: usize) -> (usize, u64)
     requires { at + 8 ≤ length bytes.now }
@@ -58,8 +59,8 @@ fn eight_digits_at(bytes: &[u8], at: usize) -> (usize, u64)
     }
 }
 
-/// Reads up to eight more digits after these at a place. Returns how many they all are, and their value, if that is in
-/// range.
+/// Reads up to eight more digits after `count` of them at `at`. Returns the number of all digits, and their value, if
+/// that is in range.
 #[inline(always)]
 fn more_digits_at(bytes: &[u8], at: usize, count: usize, value: u64) -> Option<(usize, u64)>
     requires room { at + count + 8 ≤ length bytes.now }
@@ -72,7 +73,7 @@ fn more_digits_at(bytes: &[u8], at: usize, count: usize, value: u64) -> Option<(
     Some((count + more, value))
 }
 
-/// Returns how many digits stand at this place, up to 24, and their value, if that is in range.
+/// Returns the number of digits at `at`, up to 24, and their value, if that is in range.
 #[inline(always)]
 fn digits_at(bytes: &[u8], at: usize) -> Option<(usize, u64)>
     requires { at + 24 ≤ length bytes.now }
@@ -90,9 +91,9 @@ fn digits_at(bytes: &[u8], at: usize) -> Option<(usize, u64)>
     more_digits_at(bytes, at, count, value)
 }
 
-/// Returns the number at this place, which isn't 0, and the place after its digits.
+/// Parses the number at `at`, which isn't 0. Returns it with the place after its digits.
 ///
-/// Room for more digits than a number has lets it read eight at a time.
+/// Digits are read eight at a time, which is why there must be more bytes than a number has digits.
 #[inline(always)]
 pub fn number_at(bytes: &[u8], at: usize) -> Option<(u64, usize)>
     requires { at + 24 ≤ length bytes.now }

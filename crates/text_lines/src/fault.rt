@@ -4,29 +4,29 @@ ghost use Rattle.text_lines.specs.Faults.{line_in, name_of};
 use std::error::Error;
 use std::fmt;
 
-/// What is wrong with a text: the first fault in the order of its bytes.
+/// A fault of a text: the first one in the order of its bytes.
 ///
 /// Lines are counted from 1 over all that the reader reads.
 #[derive(Clone, Copy, Debug, PartialEq, Eq)]
 pub enum TextFault {
-    /// The source failed in this call, before the text was whole.
+    /// The source failed in this call, before the text was complete.
     Read,
     /// The first line isn't that of a history or of a schedule, or is longer than 80 bytes.
     Header,
-    /// The line has more than 80 bytes, or its words or the number of its fields are wrong; of a verdict, also its
-    /// first line.
+    /// The line has more than 80 bytes, or its words or the number of its fields are wrong; or it is a wrong first
+    /// line of a verdict.
     Line(u64),
-    /// A field of the line that should be a number isn't: the digit 0, or digits that don't begin with 0.
+    /// A field of the line that should be a number isn't the digit 0, nor digits that begin with another one.
     Number(u64),
     /// A number of the line is out of its range, or the line is one more than a text may have.
     Limit(u64),
-    /// The last line's count isn't the number of lines before it.
+    /// The last line doesn't count the lines before it.
     Count,
     /// The input ends within a line or before the last one; in a verdict, before the first one.
     Cut,
-    /// The input goes on after its text.
+    /// The input continues after its text.
     Trailing,
-    /// Memory ran out for what a line without fault says.
+    /// Memory ran out for the content of a line without fault.
     Memory,
 }
 
@@ -43,7 +43,7 @@ impl fmt::Display for TextFault {
 impl Error for TextFault {}
 
 impl TextFault {
-    /// Returns its name, which is printed before the number of its line.
+    /// Returns the name of the fault, which is printed before the number of its line.
     pub fn name(self) -> &'static str
         ensures name { result.now ≡ name_of self }
         ensures short { length result.now ≤ 20 }
@@ -61,7 +61,7 @@ impl TextFault {
         }
     }
 
-    /// Returns the number of its line, if it has one.
+    /// Returns the number of the faulty line, if the fault has one.
     pub fn line(self) -> Option<u64>
         ensures { result ≡ line_in self }
     {

@@ -1,4 +1,4 @@
-//! The fields of a line, and the numbers in them.
+//! The fields of a line, and their numbers.
 ghost use Rattle.std.specs.Prelude.{◌≡◌, ◌<◌, ◌≤◌, ◌^◌, ◌∷◌, [], true, MatchOption, IfOk, IfErr};
 ghost use Rattle.std.specs.List.{list_all};
 ghost use Rattle.std.specs.Option.{SomeIff};
@@ -9,7 +9,7 @@ ghost use Rattle.text_lines.specs.Lines.{IsLineFault, fields_of};
 
 use crate::fault::TextFault;
 
-/// Whether the field is the digit 0, or digits of which the first isn't 0.
+/// Returns whether the field is the digit 0, or digits that begin with another one.
 fn is_number(field: &[u8]) -> bool
     ensures { result ≡ wanted.is_number field.now }
 {
@@ -22,7 +22,7 @@ fn all_digits(field: &[u8]) -> bool
     field.iter().all(|b| b.is_ascii_digit())
 }
 
-/// Returns the number that the digits write, if it has 64 bits.
+/// Returns the number that the digits spell, if it has at most 64 bits.
 fn value_of(digits: &[u8]) -> Option<u64>
     requires { list_all is_ascii_digit digits.now ≡ true }
     ensures { SomeIff result (digits_value 10 digits.now < 2 ^ 64) (digits_value 10 digits.now) }
@@ -41,7 +41,7 @@ fn value_of(digits: &[u8]) -> Option<u64>
     Some(value)
 }
 
-/// Returns what a number field stands for, if it is at most `greatest`; `line` is the line's number, for the fault.
+/// Parses a number field, whose number is at most `greatest`. `line` is the number of the line, for the fault.
 pub fn number_in(line: u64, greatest: u64, field: &[u8]) -> Result<u64, TextFault>
     ensures value { result ≡ wanted.number_in line greatest field.now }
     ensures of_line { IfErr result IsLineFault }
@@ -56,7 +56,7 @@ pub fn number_in(line: u64, greatest: u64, field: &[u8]) -> Result<u64, TextFaul
     }
 }
 
-/// Returns what a number field stands for, if it lies from `least` to `greatest`.
+/// Parses a number field, whose number is from `least` to `greatest`.
 pub(crate) fn number_between(
     line: u64,
     least: u64,

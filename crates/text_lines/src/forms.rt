@@ -1,4 +1,4 @@
-//! Lines that are judged by a table of their forms.
+//! Lines parsed by a table of their forms.
 ghost use Rattle.std.specs.Prelude.{◌≡◌, ◌<◌, ◌≤◌, ◌++◌, ◌∷◌, ℕ, List, [], length, map, slice_index, true, IfErr};
 ghost use Rattle.text_lines.specs.Forms as wanted;
 ghost use Rattle.text_lines.specs.Forms.{form_of, row_of, fields_left, has_short_forms};
@@ -8,10 +8,10 @@ use crate::fault::TextFault;
 use crate::field::{number_between, split_field};
 use std::marker::Model;
 
-/// The most fields of a form.
+/// The maximum number of fields of a form.
 const MOST_FIELDS: usize = 5;
 
-/// What a field of a line must be.
+/// The form of a field.
 #[derive(Clone, Copy, Drop)]
 pub enum Field {
     /// This word.
@@ -20,7 +20,7 @@ pub enum Field {
     Number { least: u64, greatest: u64 },
 }
 
-/// The numbers of a line, seen as a list. They lie in place, so it takes no memory.
+/// The numbers of a line, seen as a list. They are held in place, so it takes no memory.
 #[derive(Drop)]
 pub struct NumberFields {
     values: [u64; MOST_FIELDS],
@@ -48,7 +48,7 @@ impl NumberFields {
         }
     }
 
-    /// Adds a number. There are fewer than five.
+    /// Adds a number. Fewer than five are there.
     fn push(&mut self, number: u64)
         requires { length self.old < 5 }
         ensures { self.new ≡ self.old ++ number ∷ [] }
@@ -57,7 +57,7 @@ impl NumberFields {
         self.len += 1;
     }
 
-    /// Returns the number at a place, or 0 if there is none.
+    /// Returns the number at `place`, or 0 if there is none.
     pub fn at(&self, place: usize) -> u64
         ensures { result ≡ slice_index self.now place }
     {
@@ -79,7 +79,7 @@ fn first_field(bytes: &[u8]) -> (&[u8], Option<&[u8]>)
     }
 }
 
-/// Whether the field is as its form says.
+/// Returns whether the field is of this form.
 fn is_field_of(form: Field, field: &[u8]) -> bool
     ensures { result ≡ wanted.is_field_of (form_of form) field.now }
 {
@@ -89,7 +89,7 @@ fn is_field_of(form: Field, field: &[u8]) -> bool
     }
 }
 
-/// Whether the line has as many fields as the form, each as its form says.
+/// Returns whether the line has one field for each of these forms.
 fn fits(forms: &[Field], bytes: &[u8]) -> bool
     ensures { result ≡ wanted.fits (map form_of forms.now) (fields_of bytes.now) }
 {
@@ -107,7 +107,7 @@ fn fits(forms: &[Field], bytes: &[u8]) -> bool
     left.is_none()
 }
 
-/// Returns the numbers of a line's number fields, or the first fault of these.
+/// Parses the number fields of a line, or returns their first fault.
 fn numbers_in(line: u64, forms: &[Field], bytes: &[u8]) -> Result<NumberFields, TextFault>
     requires { length forms.now ≤ 5 }
     ensures value { result ≡ wanted.numbers_in line (map form_of forms.now) (fields_of bytes.now) }
@@ -128,8 +128,8 @@ fn numbers_in(line: u64, forms: &[Field], bytes: &[u8]) -> Result<NumberFields, 
     Ok(numbers)
 }
 
-/// Reads a line by the first form of a table that its fields fit: what the form makes of it and its numbers, or the
-/// first fault of its fields.
+/// Parses a line by the first form of a table that its fields fit. Returns the row's item and the line's numbers, or
+/// the first fault of its fields.
 ///
 /// If no form fits, the line is at fault. Otherwise its numbers are judged from left to right.
 pub fn parse_line<T: Copy>(

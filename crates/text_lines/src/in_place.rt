@@ -3,7 +3,7 @@ ghost use Rattle.std.specs.Prelude.{◌≡◌, ◌+◌, ◌<◌, ◌≤◌, ◌�
 use itoa::write_digits;
 use std::marker::Model;
 
-/// Up to `N` bytes that lie in place and take no memory, seen as a list.
+/// A list of up to `MOST` bytes, held in place without taking memory.
 #[derive(Drop)]
 pub struct InPlace<const MOST: usize> {
     bytes: [u8; MOST],
@@ -29,7 +29,7 @@ impl<const MOST: usize> InPlace<MOST> {
         }
     }
 
-    /// Returns how many bytes there are.
+    /// Returns the number of bytes.
     pub fn len(&self) -> usize
         ensures value { result ≡ length self.now }
         ensures few { length self.now ≤ MOST }
@@ -51,7 +51,7 @@ impl<const MOST: usize> InPlace<MOST> {
         self.len = 0;
     }
 
-    /// Adds a byte. There is room for it.
+    /// Appends a byte. There is room for it.
     pub fn push_byte(&mut self, byte: u8)
         requires { length self.old < MOST }
         ensures { self.new ≡ self.old ++ byte ∷ [] }
@@ -60,7 +60,7 @@ impl<const MOST: usize> InPlace<MOST> {
         self.len += 1;
     }
 
-    /// Adds bytes. There is room for them.
+    /// Appends bytes. There is room for them.
     #[inline(always)]
     pub fn push(&mut self, bytes: &[u8])
         requires { length self.old + length bytes.now ≤ MOST }
@@ -74,7 +74,7 @@ impl<const MOST: usize> InPlace<MOST> {
         self.len = end;
     }
 
-    /// Adds a number in decimal digits, of which there are at most 20.
+    /// Appends a number in decimal digits, at most 20.
     #[inline(always)]
     pub(crate) fn push_decimal(&mut self, number: u64)
         requires { length self.old + 20 ≤ MOST }
@@ -87,7 +87,7 @@ impl<const MOST: usize> InPlace<MOST> {
     }
 }
 
-/// Returns how many decimal digits a number has.
+/// Returns the number of decimal digits of a number.
 #[inline(always)]
 fn decimal_len(number: u64) -> usize
     ensures { result ≡ length (decimal number) }

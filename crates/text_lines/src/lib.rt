@@ -1,8 +1,8 @@
-//! What texts are made of, read and written: lines of bytes, their fields, and the numbers in them.
+//! Reads and writes the parts of texts: lines of bytes, their fields, and the numbers in them.
 //!
-//! A source says to contracts how its bytes end, and a sink says what each call made of it. A line has at most 80
-//! bytes before its line feed; one space stands between its fields; a number is the digit 0, or digits of which the
-//! first isn't 0. This crate also defines which faults one line can have.
+//! Contracts see how the bytes of a source end, and the outcome of each call on a sink. A line has at most 80 bytes
+//! before its line feed. Single spaces separate its fields. A number is the digit 0, or digits that begin with
+//! another one. This crate also defines the faults that one line can have.
 #![tactic(auto)]
 
 mod buffered;

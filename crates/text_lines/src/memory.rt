@@ -4,7 +4,8 @@ ghost use Rattle.text_lines.specs.Input.{EndOfInput, Exactly, Failure, ReadGives
 use crate::source::{ReadFailed, TextSource};
 use std::marker::Model;
 
-/// A source over bytes in memory, which gives all of them and then ends or fails. Contracts see what is left of it.
+/// A source over bytes in memory, which gives all of them and then ends or fails. Contracts see the bytes that are
+/// left.
 #[derive(Drop)]
 pub struct MemorySource<'a> {
     bytes: &'a [u8],

@@ -1,8 +1,8 @@
-//! What stands at the front of some bytes, found in one pass.
+//! Scanning the front of bytes in one pass.
 ghost use Rattle.std.specs.Prelude.{◌≡◌, ◌+◌, ◌≤◌, ◌++◌, length, IfSome, IfNone, List, ℕ, drop};
 ghost use Rattle.std.specs.Bool.{MatchBool};
 
-/// Returns the place after the word that stands at this place. A word of eight bytes is compared at once.
+/// Returns the place after the word, if it is at `at`. A word of eight bytes is compared at once.
 #[inline(always)]
 pub fn after_word_at(bytes: &[u8], at: usize, word: &[u8]) -> Option<usize>
     requires { at + length word.now ≤ length bytes.now }
@@ -17,7 +17,7 @@ pub fn after_word_at(bytes: &[u8], at: usize, word: &[u8]) -> Option<usize>
     Some(end)
 }
 
-/// Whether the bytes are those of the word.
+/// Returns whether the bytes are those of the word.
 #[inline(always)]
 fn is_same(bytes: &[u8], word: &[u8]) -> bool
     requires { length bytes.now ≡ length word.now }
@@ -36,7 +36,7 @@ fn is_same(bytes: &[u8], word: &[u8]) -> bool
     is_same
 }
 
-/// Whether both are the same, as one number each.
+/// Returns whether both are equal, comparing each as one number.
 #[inline(always)]
 fn is_same_eight(bytes: &[u8; 8], word: &[u8; 8]) -> bool
     ensures { MatchBool result (bytes.now ≡ word.now) (bytes.now ≡ word.now → ⊥) }

@@ -7,7 +7,7 @@ use crate::source::Watched;
 use std::io::Write;
 use thiserror::Error;
 
-/// Why a text isn't written whole.
+/// The reason why a text isn't written completely.
 #[derive(Clone, Copy, Debug, PartialEq, Eq, Error)]
 pub enum WriteFault {
     /// The writer failed, or took no byte of a piece that wasn't empty.
@@ -15,33 +15,33 @@ pub enum WriteFault {
     Write,
 }
 
-/// What texts are written to.
+/// A sink to which texts are written.
 ///
-/// Beside what std's `Write` has, contracts see whether it has refused bytes, and what each call makes of it. If they
-/// saw the bytes alone, a body that always returns a failed write would meet every contract of a writer, and so would
-/// one that never flushes.
+/// Beside what std's `Write` has, contracts see whether the sink has refused bytes, and the outcome of each call. If
+/// they saw the bytes alone, a body that always returns a failed write would meet every contract of a writer, and so
+/// would one that never flushes.
 pub trait TextSink {
-    /// The bytes that it took, if they are known.
+    /// The bytes that the sink took, if they are known.
     ghost contents: { Self → Option (List ℕ) };
 
-    /// Whether a call has failed, or took no byte of a piece that wasn't empty.
+    /// Holds if a call has failed, or took no byte of a piece that wasn't empty.
     ghost has_refused: { Self → Bool };
 
-    /// Whether some of the bytes that it took may not be passed on yet.
+    /// Holds if some of the bytes that the sink took may not be passed on yet.
     ghost holds_back: { Self → Bool };
 
-    /// Whether a call that ended so leads from the earlier sink to the later one. So contracts see which calls were
-    /// made, and in which order.
+    /// Relates the sink before and after a call with this outcome. So contracts see which calls were made, and in
+    /// which order.
     ghost transition: { Self → Asked → Self → Type 0 };
 
-    /// Takes bytes from the front of the piece, and returns how many.
+    /// Takes bytes from the front of the piece, and returns their number.
     fn write(&mut self, piece: &[u8]) -> Result<usize, WriteFault>
         ensures bound { IfOk result (λ n. n ≤ length piece.now) }
         ensures bytes { WriteAppends (contents self.old) (contents self.new) result piece.now }
         ensures refused { has_refused self.new ≡ (has_refused self.old || is_refusal result piece.now) }
         ensures asked { transition self.old (asked_to_write result piece.now) self.new };
 
-    /// Passes on what the sink holds back.
+    /// Passes on the bytes that are held back.
     fn flush(&mut self) -> Result<(), WriteFault>
         ensures bytes { Keeps (contents self.old) (contents self.new) }
         ensures refused { has_refused self.new ≡ (has_refused self.old || is_err result) }
@@ -88,8 +88,8 @@ impl<W: Write> TextSink for Watched<W> {
     }
 }
 
-/// Writes all of the bytes, in as many calls as the writer needs, or fails after a prefix of them. It doesn't flush
-/// the writer.
+/// Writes all of the bytes, in as many calls as the writer needs, or fails after a prefix of them. The writer isn't
+/// flushed.
 pub fn write_piece<W: TextSink>(piece: &[u8], writer: &mut W) -> Result<(), WriteFault>
     ensures { Writes W.contents W.has_refused W.transition piece.now writer.old writer.new result }
 {

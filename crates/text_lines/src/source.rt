@@ -5,31 +5,31 @@ use std::io::Read;
 use std::marker::Model;
 use thiserror::Error;
 
-/// A read failed.
+/// The error of a failed read.
 #[derive(Clone, Copy, Debug, PartialEq, Eq, Error)]
 #[error("Read")]
 pub struct ReadFailed;
 
-/// What texts are read from.
+/// A source from which texts are read.
 ///
 /// Beside what std's `Read` has, contracts see how its bytes end. If they saw the bytes alone, a body that always
 /// returns a failed read would meet every contract of a reader.
 pub trait TextSource {
-    /// What is known of the bytes that reads will give from here on, and of how they end.
+    /// The bytes that reads will give from here on, and how they end, as far as this is known.
     ghost ahead: { Self → Known };
 
-    /// Puts bytes at the front of the piece, and returns how many. It gives none only if the piece is empty or the
+    /// Puts bytes at the front of the piece, and returns their number. Gives none only if the piece is empty or the
     /// bytes have ended.
     fn read(&mut self, piece: &mut [u8]) -> Result<usize, ReadFailed>
         ensures bound { IfOk result (λ n. n ≤ length piece.new) }
         ensures bytes { ReadGives (ahead self.old) (ahead self.new) result piece.new };
 }
 
-/// A reader or a writer of std as a source or a sink of texts, and whether a write or a flush has failed.
+/// A reader or a writer of std as a source or a sink of texts. It notes whether a write or a flush has failed.
 ///
-/// Each call makes one call of the reader or writer, and fails if that fails: an interrupted call isn't tried again.
-/// std's traits say nothing of failures to contracts, so tests show this. Contracts know a reader's bytes if std's `Read`
-/// does, but not whether a read fails before their end; of a `MemorySource` they know both.
+/// Each call makes one call of the reader or writer, and fails if that fails: an interrupted call isn't repeated. The
+/// contracts of std's traits don't speak of failures, so tests show this. Contracts know a reader's bytes if std's
+/// `Read` does, but not whether a read fails before their end. For a `MemorySource` they know both.
 #[derive(Drop)]
 pub struct Watched<T> {
     pub(crate) inner: T,

@@ -4,17 +4,17 @@ ghost use Rattle.text_lines.specs.Writing.{PutsText};
 use crate::in_place::InPlace;
 use crate::sink::{TextSink, WriteFault, write_piece};
 
-/// The most bytes that are held back before they are written.
+/// The maximum number of bytes held back before they are written.
 pub(crate) const BUFFER_LEN: usize = 4096;
 
-/// Enough bytes for a line of four numbers of 64 bits with its word.
+/// Room for a line of four numbers of 64 bits and a word.
 const LINE_ROOM: usize = 96;
 
-/// Bytes of a text that are held back, so that many lines are written at once. Contracts see the list of them.
+/// The bytes of a text that are held back, so that many lines are written at once. Contracts see the list of them.
 pub type WriteBuffer = InPlace<BUFFER_LEN>;
 
 impl InPlace<BUFFER_LEN> {
-    /// Adds a number in decimal digits, of which there are at most 20.
+    /// Appends a number in decimal digits, at most 20.
     #[inline(always)]
     pub fn push_number(&mut self, number: u64)
         requires { length self.old + 20 ≤ 4096 }
@@ -24,7 +24,7 @@ impl InPlace<BUFFER_LEN> {
         self.push_decimal(number);
     }
 
-    /// Adds a field with a number, and the space after it.
+    /// Appends a number field, and the space after it.
     #[inline(always)]
     pub fn push_field(&mut self, number: u64)
         requires { length self.old + 21 ≤ 4096 }
@@ -36,7 +36,7 @@ impl InPlace<BUFFER_LEN> {
     }
 }
 
-/// Makes room for one more line among the bytes held back: if there is none, it writes them.
+/// Makes room for one more line among the bytes that are held back. If there is none, these are written.
 pub fn make_room<W: TextSink>(kept: &mut WriteBuffer, writer: &mut W) -> Result<(), WriteFault>
     ensures text { PutsText W.contents W.has_refused W.transition kept.old kept.new [] writer.old writer.new result }
     ensures room { OnOk result (length kept.new + 96 ≤ 4096) }

@@ -1,5 +1,5 @@
-//! Tests of the texts that are read and written, and of the command line. The crate has tests alone: a crate's own tests would
-//! prove it a second time.
+//! Tests of reading and writing texts, and of the command line. The crate has only tests: in a crate's own tests they
+//! would prove that crate a second time.
 #![tactic(auto)]
 
 #[cfg(test)]

@@ -1,4 +1,5 @@
--- Courses in which the same values come in, and the same is done otherwise, have the same lives, violations and free gaps.
+-- Courses in which the same values come in and the same operations happen have the same lives, violations and free
+-- gaps.
 use Rattle.value_match.proofs.Common.{[], Course, CoversFrom, Deq, dequeue_call, dequeue_of, Did, Empty, Enq}
 use Rattle.value_match.proofs.Common.{fresh, inl, inr, IsFreshViolation, IsLife, Life, List, MatchOption}
 use Rattle.value_match.proofs.Common.{NoFreshViolation, None, NoneDid, Not, Operation, OpKind, Option, repeat, Some, ℕ}
@@ -10,12 +11,12 @@ use Rattle.value_match.specs.Lives.{IsCovered, IsFreeGap, IsLeastFreeGap}
 use Rattle.value_match.specs.Violations.{FullViolation, IsOrderViolation, IsRepeatViolation, IsWitnessViolation}
 use Rattle.value_match.specs.Violations.{NoOrderViolation, NoRepeatViolation, order, witness}
 
--- what holds of the first course that definitions speak of holds of the second
+-- each fact about the first course that definitions use holds of the second
 pub record Carries (c d : Course) : Type 0 where
   pub enters : (enq : Operation) (v : ℕ) → c.Enters enq v → d.Enters enq v
   pub did : (o : Operation) (kind : OpKind) → ((v : ℕ) → kind ≢ Enq v) → Did c.operations o kind → Did d.operations o kind
 
--- and the other way round
+-- each course carries over to the other
 pub record Agree (c d : Course) : Type 0 where
   pub there : Carries c d
   pub back : Carries d c
@@ -79,7 +80,7 @@ module _ (c d : Course) (agree : Agree c d) where
     covers = covers_of empty empty.call cover is.covers;
   }
 
--- ---- what no life, or no violation, is of the one is none of the other
+-- ---- without a life or a violation in the one, there is none in the other
 
 module _ (c d : Course) (agree : Agree c d) where
   abbrev back : Agree d c
@@ -107,7 +108,7 @@ module _ (c d : Course) (agree : Agree c d) where
   pub covered_of : (o : Operation) → IsCovered c o → IsCovered d o
   covered_of o covered gap within = let stays = covered gap within in (stays.0, life_of c d agree stays.0 stays.1, stays.2)
 
-  -- ---- what is chosen of the one is chosen of the other
+  -- ---- what is chosen in the one is chosen in the other
 
   pub chosen_order_of : (a b : Life) → IsChosenOrderViolation c a b → IsChosenOrderViolation d a b
   chosen_order_of a b is = record {

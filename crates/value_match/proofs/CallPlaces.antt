@@ -1,4 +1,4 @@
--- Places of calls and of sources, met by walks over the operations.
+-- Places of calls and of sources, found by walks over the operations.
 use Rattle.value_match.proofs.Common.{[], All, All-permutation, All-pop, All-push, ap, arith, Bool, btree_set_len}
 use Rattle.value_match.proofs.Common.{BTreeSet, Call, CallsNoneOf, cases_Bool, cases_eq, cond, contains, Deq}
 use Rattle.value_match.proofs.Common.{each_more, enqueued_value, eq-eqb, false, false≢true, get_or, get_or-append_seam}
@@ -13,15 +13,15 @@ use Rattle.value_match.proofs.Common.{subst, sym, true, ℕ, ◌++◌, ◌+◌, 
 abbrev pub NotCalledTo : List Operation → ℕ → ℕ → Type 0
 NotCalledTo operations n v = (k : ℕ) (o : Operation) → k < n → IsAt operations k o → ¬ (enqueued_value o.kind ≡ Some v)
 
--- of the values that are wanted, the calls among the first n operations
+-- the calls of the wanted values among the first n operations
 pub record MetOthers (wanted : BTreeSet ℕ) (operations : List Operation) (n : ℕ) (calls : List Call) : Type 0 where
   pub are_calls : All (IsCall operations) calls
   pub has_all : (v : ℕ) → contains nat_cmp wanted v ≡ true → NoneOf calls v → NotCalledTo operations n v
 
--- an operation that calls no value that is wanted, and one that does
+-- an operation that calls no wanted value, or one that does
 module _ (wanted : BTreeSet ℕ) (operations : List Operation) (i : ℕ) (o : Operation) (calls : List Call) (here : IsAt operations i o)
     (met : MetOthers wanted operations i calls) where
-  -- the first adds no call
+  -- the operation adds no call
   pub others_unwanted : CallsNoneOf wanted o → MetOthers wanted operations (i + 1) calls
   others_unwanted none = record {
     are_calls = met.are_calls;
@@ -29,7 +29,7 @@ module _ (wanted : BTreeSet ℕ) (operations : List Operation) (i : ℕ) (o : Op
         each_more (λ k x. ¬ (enqueued_value x.kind ≡ Some v)) operations i o here (none v is_wanted) (met.has_all v is_wanted none_of);
   }
 
-  -- the second is added with its place
+  -- the operation is added with its place
   pub others_more : (w : ℕ) → enqueued_value o.kind ≡ Some w → MetOthers wanted operations (i + 1) (calls ++ record { value = w; place = i } ∷ [])
   others_more w called = record {
     are_calls = All-push (IsCall operations) calls (record { value = w; place = i }) met.are_calls (o, here, called);
@@ -40,7 +40,7 @@ module _ (wanted : BTreeSet ℕ) (operations : List Operation) (i : ℕ) (o : Op
         (met.has_all v is_wanted parts.0);
   }
 
--- all calls of values that are wanted, by their values
+-- all calls of the wanted values, sorted by value
 pub others_sorted : (wanted : BTreeSet ℕ) (operations : List Operation) (n : ℕ) (calls sorted : List Call) → length operations ≤ n
     → MetOthers wanted operations n calls → IsPermutation calls sorted
     → IsNonDecreasingBy (λ call. call.value) sorted → HoldsOthers wanted operations sorted
@@ -53,14 +53,14 @@ others_sorted wanted operations n calls sorted all met moved rises = record {
   rises = rises;
 }
 
--- where more values are wanted, what is near by stays so
+-- near sources stay near when more values are wanted
 near_wider : (wanted more : BTreeSet ℕ) (operations : List Operation) (kind : OpKind) (source : Option ℕ)
     → ((v : ℕ) → contains nat_cmp wanted v ≡ true → contains nat_cmp more v ≡ true)
     → IsNearSource wanted operations kind source → IsNearSource more operations kind source
 near_wider wanted more operations (Deq v) None wider near = wider v near
 near_wider wanted more operations _ _ wider near = near
 
--- the same of operations, when one value more is wanted
+-- near sources of operations stay near when one more value is wanted
 pub wants_more : (wanted more : BTreeSet ℕ) (w : ℕ) (operations : List Operation) (from to : ℕ) (sources : List (Option ℕ))
     → ((v : ℕ) → contains nat_cmp more v ≡ cond (is_eq (nat_cmp w v)) true (contains nat_cmp wanted v))
     → HoldsNear wanted operations from to sources → HoldsNear more operations from to sources
@@ -72,7 +72,7 @@ wants_more wanted more w operations from to sources adds near = record {
     wider : (v : ℕ) → contains nat_cmp wanted v ≡ true → contains nat_cmp more v ≡ true
     wider v is = adds v ∙ rw is (elim (cases_Bool (is_eq (nat_cmp w v))) [ inl here ↦ rw here refl | inr other ↦ rw other refl ])
 
--- that value is wanted
+-- the added value is wanted
 pub is_wanted : (wanted more : BTreeSet ℕ) (w : ℕ) → ((v : ℕ) → contains nat_cmp more v ≡ cond (is_eq (nat_cmp w v)) true (contains nat_cmp wanted v))
     → contains nat_cmp more w ≡ true
 is_wanted wanted more w adds =
@@ -83,13 +83,13 @@ pub no_source : (operations : List Operation) (kind : OpKind) → ((v : ℕ) →
 no_source operations (Deq v) other = absurd (other v refl)
 no_source operations _ other = refl
 
--- nor one near by
+-- an operation that is no dequeue has no near source
 pub no_near_source : (wanted : BTreeSet ℕ) (operations : List Operation) (kind : OpKind) → ((v : ℕ) → ¬ (kind ≡ Deq v))
     → IsNearSource wanted operations kind None
 no_near_source wanted operations (Deq v) other = absurd (other v refl)
 no_near_source wanted operations _ other = refl
 
--- one more
+-- one more operation, with its near source
 pub near_push : (wanted : BTreeSet ℕ) (operations : List Operation) (from n : ℕ) (o : Operation) (sources : List (Option ℕ)) (source : Option ℕ)
     → IsAt operations n o → IsNearSource wanted operations o.kind source → HoldsNear wanted operations from n sources
     → HoldsNear wanted operations from (n + 1) (sources ++ source ∷ [])
@@ -106,13 +106,13 @@ near_push wanted operations from n o sources source here is known = record {
   ];
 }
 
--- the call is among the operations
+-- the call is one of the operations
 pub call_within : (operations : List Operation) (v place : ℕ) → IsCallPlace operations v (Some place) → place < length operations
 call_within operations v place (o, here, called) = slice_get_within operations place o here
 
--- ---- sources that are found
+-- ---- the remaining sources are found
 
--- of the operations from one place on the sources of the first n are found, and the values of others that aren't found are wanted
+-- the first n sources from one place on are found, and the values of the others are wanted
 pub record FindsOthers (operations : List Operation) (from n : ℕ) (sources : List (Option ℕ)) (calls : List Call) : Type 0 where
   pub wanted : BTreeSet ℕ
   pub one_each : from + length sources ≡ length operations
@@ -120,17 +120,17 @@ pub record FindsOthers (operations : List Operation) (from n : ℕ) (sources : L
   pub near : (i : ℕ) (o : Operation) → n ≤ from + i → IsAt operations (from + i) o → IsNearSource wanted operations o.kind (get_or sources i None)
   pub others : HoldsOthers wanted operations calls
 
--- a source that was near
+-- a source that was found near
 pub near_source : (wanted : BTreeSet ℕ) (operations : List Operation) (kind : OpKind) (source : Option ℕ) → IsNearSource wanted operations kind source
     → ¬ (source ≡ None) → IsSourceOf operations kind source
 near_source wanted operations (Deq v) None near some = absurd (some refl)
 near_source wanted operations _ _ near some = near
 
--- an operation from a place on, by its place among those from there on
+-- an operation after a place, by its index among those from there on
 pub behind_at : (operations : List Operation) (from n : ℕ) (o : Operation) → from ≤ n → IsAt operations n o → IsAt operations (from + (n - from)) o
 behind_at operations from n o late here = let there : from + (n - from) ≡ n = omega arith in rw there here
 
--- one source more is found
+-- one more source is found
 pub found_more : (operations : List Operation) (from n : ℕ) (o : Operation) (sources : List (Option ℕ)) (source : Option ℕ) (calls : List Call)
     → from ≤ n → IsAt operations n o → IsSourceOf operations o.kind source → FindsOthers operations from n sources calls
     → FindsOthers operations from (n + 1) (set sources (n - from) source) calls
@@ -151,7 +151,7 @@ found_more operations from n o sources source calls late here is known = record 
     within : n - from < length sources
     within = let inside = slice_get_within operations n o here in omega (arith, inside, known.one_each)
 
--- a source is as it was
+-- a source stays as it was
 pub found_here : (operations : List Operation) (from n : ℕ) (o : Operation) (sources : List (Option ℕ)) (calls : List Call) → from ≤ n
     → IsAt operations n o → IsSourceOf operations o.kind (get_or sources (n - from) None) → FindsOthers operations from n sources calls
     → FindsOthers operations from (n + 1) sources calls
@@ -169,7 +169,7 @@ found_here operations from n o sources calls late here is known = record {
   others = known.others;
 }
 
--- the value of a dequeue has no call, where none of those that are wanted is of it
+-- the value of a dequeue has no call if no call of the wanted values is of it
 pub found_nowhere : (wanted : BTreeSet ℕ) (operations : List Operation) (o : Operation) (v : ℕ) (source : Option ℕ) (calls : List Call)
     → o.kind ≡ Deq v → source ≡ None → HoldsOthers wanted operations calls → NoneOf calls v → IsNearSource wanted operations o.kind source
     → IsSourceOf operations o.kind source
@@ -184,7 +184,7 @@ found_all operations from n sources calls all known = record {
   each = λ i o at. known.found i o (let below = slice_get_within operations (from + i) o at in omega (arith, below)) at;
 }
 
--- if no value is wanted, the sources near by are all
+-- if no value is wanted, all sources are near
 pub none_wanted : (wanted : BTreeSet ℕ) (operations : List Operation) (from : ℕ) (sources : List (Option ℕ)) → btree_set_len wanted ≡ 0
     → HoldsNear wanted operations from (length operations) sources → HoldsSources operations from sources
 none_wanted wanted operations from sources none near = record {
@@ -201,12 +201,12 @@ none_wanted wanted operations from sources none near = record {
     settled (Deq v) None is_wanted = absurd (false≢true (sym (any_of_none _ (keys wanted) none) ∙ is_wanted))
     settled _ _ is = is
 
--- the source of an operation from a place on
+-- the source of an operation after a place
 pub source_at : (operations : List Operation) (from n : ℕ) (o : Operation) (sources : List (Option ℕ)) → HoldsSources operations from sources
     → from ≤ n → IsAt operations n o → IsSourceOf operations o.kind (get_or sources (n - from) None)
 source_at operations from n o sources holds late here = holds.each (n - from) o (behind_at operations from n o late here)
 
--- what isn't some place is none
+-- an optional place that isn't some place is none
 pub none_if : (x : Option ℕ) → is_some x ≡ false → x ≡ None
 none_if None is = refl
 none_if (Some n) is = absurd (false≢true (sym is))

@@ -1,4 +1,4 @@
--- Dequeues of values that were not there, told by the places of the calls.
+-- Phantom dequeues, recognised by the places of the calls.
 use Rattle.value_match.proofs.Common.{ap, AreChosenFresh, AreComplete, arith, Bool, CallsFor, cases_lt, cond, Contains}
 use Rattle.value_match.proofs.Common.{contains_at, Deq, each_more, Enq, enqueued_value, false, false≢true, FreshPlaces}
 use Rattle.value_match.proofs.Common.{IfSome, inl, inr, is_refused, IsAt, IsCallPlace, IsEnqueuedTooLate, IsFreshFrom}
@@ -8,13 +8,13 @@ use Rattle.value_match.proofs.Common.{one_at, Operation, OpKind, Option, place_o
 use Rattle.value_match.proofs.Common.{slice_get_within, Some, subst, sym, true, ℕ, ◌+◌, ◌<◌, ◌||◌, ◌↔◌, ◌≡◌, ◌≤◌, ◌⊎◌}
 use Rattle.value_match.proofs.ToldPlaces.{fresh_dequeues}
 
--- an operation that called to enqueue a value was accepted or refused
+-- an operation that called to enqueue a value succeeded or failed
 pub calls_for : (kind : OpKind) (v : ℕ) → enqueued_value kind ≡ Some v → (kind ≡ Enq v) ⊎ (kind ≡ Not v)
 calls_for (Enq w) v h = let same : w ≡ v = cc in inl (ap Enq same)
 calls_for (Not w) v h = let same : w ≡ v = cc in inr (ap Not same)
 calls_for _ v h = cc
 
--- a dequeue is of a value that was not there where the call was refused or comes after its return
+-- a dequeue is a phantom dequeue if the call for its value failed or came after its return
 pub fresh_by_call : (operations : List Operation) (i p : ℕ) (o call : Operation) (v : ℕ) → IsAt operations i o → o.kind ≡ Deq v
     → IsAt operations p call → enqueued_value call.kind ≡ Some v
     → IsTrue (is_refused call || nat_lt o.ret call.call) ↔ IsFreshFrom operations (Some p) o
@@ -37,7 +37,7 @@ fresh_by_call operations i p o call v here is there calls = (λ soon. (Some call
       | inr accepted ↦ rw (same, accepted.0.1, lt-ltb o.ret e.call accepted.1) refl
     ]
 
--- a dequeue without a source is of a value that was not there
+-- a dequeue without a source is a phantom dequeue
 pub fresh_at_none : (operations : List Operation) (i : ℕ) (o x : Operation) (v : ℕ) → IsAt operations i o → o.kind ≡ Deq v
     → IsCallPlace operations v None → IsAt operations i x → IsTrue true ↔ IsFreshFrom operations None x
 fresh_at_none operations i o x v here is none there =
@@ -49,7 +49,7 @@ fresh_at_none operations i o x v here is none there =
     } in
     rw (one_at operations i x o there here) (λ _. (None, tt, fresh), λ _. refl)
 
--- a dequeue with a source is, where the call there was refused or comes after its return
+-- a dequeue with a source is a phantom dequeue if and only if the call there failed or came after its return
 pub fresh_at_some : (operations : List Operation) (i p : ℕ) (o x : Operation) (v : ℕ) (soon : Bool) → IsAt operations i o → o.kind ≡ Deq v
     → IsCallPlace operations v (Some p) → ((call : Operation) → IsAt operations p call → soon ≡ (is_refused call || nat_lt o.ret call.call))
     → IsAt operations i x → IsTrue soon ↔ IsFreshFrom operations (Some p) x
@@ -80,14 +80,14 @@ named_by_source operations o (Some e) source complete from violates = named sour
         (calls_for call.kind violates.value calls) for_it.1 in
         subst (IsAt operations p) same there
 
--- an operation that is no dequeue
+-- an operation that is no dequeue is no phantom dequeue
 pub no_dequeue : (operations : List Operation) (i : ℕ) (o : Operation) → IsAt operations i o → ((v : ℕ) → ¬ (o.kind ≡ Deq v)) → NoneFresh operations i
     → NoneFresh operations (i + 1)
 no_dequeue operations i o here other none =
     each_more (λ k x. (enq : Option Operation) → ¬ (IsFreshViolation (on operations) x enq)) operations i o here
     (λ enq violates. let dequeue = fresh_dequeues operations o enq violates in other dequeue.0 dequeue.1) none
 
--- a dequeue after the call for its value
+-- a dequeue after the call for its value is no phantom dequeue
 pub in_time_more : (operations : List Operation) (i p : ℕ) (o : Operation) (v : ℕ) → AreComplete operations → IsAt operations i o
     → o.kind ≡ Deq v → IsCallPlace operations v (Some p)
     → ((call : Operation) → IsAt operations p call → false ≡ (is_refused call || nat_lt o.ret call.call))
@@ -99,19 +99,19 @@ in_time_more operations i p o v complete here is call tells none =
     let from : IsFreshFrom operations (Some p) o = (enq, named_by_source operations o enq (Some p) complete source violates, violates) in
     false≢true ((fresh_at_some operations i p o o v false here is call tells here).1 from)) none
 
--- what violates is one of the operations
+-- a phantom dequeue is one of the operations
 pub violates_among : (operations : List Operation) (o : Operation) (enq : Option Operation) → IsFreshViolation (on operations) o enq → Contains operations o
 violates_among operations o None violates = violates.dequeues.0
 violates_among operations o (Some e) violates = violates.dequeues.0
 
--- of the first n operations none violates, or the one that was found does and returns first
+-- none of the first n operations is a phantom dequeue, or the one that was found is, and returns first
 abbrev pub IsFirstFresh : List Operation → ℕ → Option FreshPlaces → Type 0
 IsFirstFresh operations n None = NoneFresh operations n
 IsFirstFresh operations n (Some found) =
     (deq : Operation) × IsAt operations found.deq deq × IsFreshFrom operations found.enq deq
     × ((k : ℕ) (o : Operation) → k < n → IsAt operations k o → (enq : Option Operation) → IsFreshViolation (on operations) o enq → deq.ret ≤ o.ret)
 
--- at the end none violates, or what was found is the chosen one
+-- at the end there is no phantom dequeue, or the one found is the chosen one
 pub first_of_all : (operations : List Operation) (n : ℕ) (first : Option FreshPlaces) → length operations ≤ n → IsFirstFresh operations n first
     → MatchOption first (NoFreshViolation (on operations)) (AreChosenFresh operations)
 first_of_all operations n None all none = λ deq enq violates.
@@ -130,16 +130,16 @@ first_of_all operations n (Some found) all (deq, at, (enq, named, violates), bef
   },
 )
 
--- what was found so far is one of the operations
+-- the phantom dequeue found so far is one of the operations
 pub first_in_range : (operations : List Operation) (n : ℕ) (first : Option FreshPlaces) → IsFirstFresh operations n first
     → IfSome first (λ f. f.deq < length operations)
 first_in_range operations n None found = tt
 first_in_range operations n (Some f) found = slice_get_within operations f.deq found.0 found.1
 
--- ---- at an operation that the walk reads, by its source
+-- ---- the operation that the walk reads, with its source
 
 module _ (operations : List Operation) (i : ℕ) (o : Operation) (source : Option ℕ) (here : IsAt operations i o) where
-  -- an operation that is passed over leaves the first
+  -- an operation that is no phantom dequeue leaves the first
   pub first_skip : (first : Option FreshPlaces) → AreComplete operations → IsSourceOf operations o.kind source
       → ¬ (IsFreshFrom operations source o) → IsFirstFresh operations i first → IsFirstFresh operations (i + 1) first
   first_skip first complete from not_fresh found = skip first found
@@ -157,7 +157,7 @@ module _ (operations : List Operation) (i : ℕ) (o : Operation) (source : Optio
             (λ enq violates. absurd (clear enq violates)) before,
       )
 
-  -- an operation that comes sooner is the first
+  -- a phantom dequeue that returns sooner becomes the first
   pub first_more : (first : Option FreshPlaces) (other sooner : FreshPlaces) → other.deq ≡ i → other.enq ≡ source
       → IsFreshFrom operations source o → (first ≡ None → sooner ≡ other)
       → IfSome first (λ f. sooner ≡ cond (nat_lt (return_at operations f.deq) (return_at operations other.deq)) f other)
@@ -170,7 +170,7 @@ module _ (operations : List Operation) (i : ℕ) (o : Operation) (source : Optio
       violates' : IsFreshFrom operations other.enq o
       violates' = rw enq_is violates
 
-      -- a dequeue that returns no later than the operations so far
+      -- a phantom dequeue that returns no later than those so far
       soonest : (f : FreshPlaces) (deq : Operation) → IsAt operations f.deq deq → IsFreshFrom operations f.enq deq
           → ((k : ℕ) (x : Operation) → k < i → IsAt operations k x → (enq : Option Operation) → IsFreshViolation (on operations) x enq → deq.ret ≤ x.ret)
           → deq.ret ≤ o.ret → IsFirstFresh operations (i + 1) (Some f)

@@ -1,4 +1,4 @@
--- Values in the order of their enqueues' returns, and the longest of each front.
+-- Values sorted by their enqueues' returns, and the one that stays longest in each prefix.
 use Rattle.value_match.proofs.Common.{[], All, All-from_get_or, All-get_or, All-nil, All-permutation, All-push}
 use Rattle.value_match.proofs.Common.{All-weaker, Any, ap, AreEntriesOf, arith, below_more, cases_lt, Contains}
 use Rattle.value_match.proofs.Common.{Contains-append_left, Contains-permutation, Contains-push, Empty, enqueue_return}
@@ -14,18 +14,18 @@ use Rattle.value_match.proofs.Common.{◌+◌, ◌<◌, ◌∙◌, ◌∷◌, �
 use Rattle.value_match.proofs.Lists.{one_more}
 use Rattle.value_match.specs.declared.life.Source.TheVariants.{Initial}
 
--- ---- one more value in a scan for the longest of those that pass
+-- ---- one more value in a scan for the one that stays longest among those that pass
 
--- what stays longer than a longer one stays longer
+-- staying at least as long is transitive
 pub stays_through : (x y z : Life) → StaysAtLeast x y → StaysAtLeast y z → StaysAtLeast x z
 stays_through x y z first second = (omega (arith, first.0, second.0), λ same. grind (arith, first, second))
 
--- a value stays as long as itself
+-- each value stays as long as itself
 pub stays_as_itself : (x : Life) → StaysAtLeast x x
 stays_as_itself x = (omega arith, λ same. omega arith)
 
 module _ (Passes : Life → Type 0) where
-  -- a value stays at least as long as another that passes
+  -- the value stays at least as long as another, if that passes
   abbrev StaysPast : MatchedValue → MatchedValue → Type 0
   StaysPast value other = Passes other.life → StaysAtLeast value.life other.life
 
@@ -59,26 +59,26 @@ module _ (Passes : Life → Type 0) where
   longest_changes values i x r found within is so_far passes longer =
       subst (λ seen. IsLongestOf Passes seen r) (sym (one_more values i x within is)) (taken (take i values) x r found so_far passes longer)
 
--- ---- values in the order of their enqueues' returns, and the longest of each front
+-- ---- values sorted by their enqueues' returns, and the one that stays longest in each prefix
 
--- where there is no value, and no front
+-- a value for indices that are out of range
 abbrev nobody : MatchedValue
 nobody = record { life = record { enqueue = record { call = 0; ret = 0; thread = 0; kind = Empty }; dequeue = None }; source = Initial 0; dequeue = None }
 
--- a front in place of none
+-- a front for indices that are out of range
 abbrev pub nowhere : Front
 nowhere = record { enqueue_return = 0; place = 0 }
 
--- the value, with its place
+-- the entry of a value at this place
 abbrev entry_of : MatchedValue → ℕ → Front
 entry_of x n = record { enqueue_return = enqueue_return x.life; place = n }
 
--- the returns and places of the first n values
+-- the enqueue returns and places of the first n values
 pub record ListsValues (values : List MatchedValue) (n : ℕ) (entries : List Front) : Type 0 where
   pub names : All (IsEntryOf values) entries
   pub each_once : (d : MatchedValue) → values_at values entries d ≡ take n values
 
--- with the next value
+-- one more value is listed
 pub lists_more : (values : List MatchedValue) (n : ℕ) (x : MatchedValue) (entries : List Front) → n < length values → x ≡ get_or values n x
     → ListsValues values n entries → ListsValues values (n + 1) (entries ++ entry_of x n ∷ [])
 lists_more values n x entries within is known = record {
@@ -88,7 +88,7 @@ lists_more values n x entries within is known = record {
       rw (map-append, known.each_once d, take_more values n d within) refl;
 }
 
--- all of them
+-- all values are listed
 pub all_listed : (values : List MatchedValue) (n : ℕ) (entries : List Front) → length values ≤ n → ListsValues values n entries → AreEntriesOf values entries
 all_listed values n entries all known = record {
   names = known.names;
@@ -96,7 +96,7 @@ all_listed values n entries all known = record {
       (IsPermutation-refl (values_at values entries d));
 }
 
--- the same in another order
+-- the entries in another order
 pub entries_moved : (values : List MatchedValue) (listed entries : List Front) → AreEntriesOf values listed → IsPermutation listed entries
     → AreEntriesOf values entries
 entries_moved values listed entries known moved = record {
@@ -110,7 +110,7 @@ abbrev value_at : List MatchedValue → MatchedValue → Option ℕ → Option M
 value_at values d None = None
 value_at values d (Some p) = Some (get_or values p d)
 
--- the first n entries name the longest of their front, and the others are as they were
+-- the first n entries name the value that stays longest in their prefix, and the others are unchanged
 pub record HasSoFar (values : List MatchedValue) (entries : List Front) (n : ℕ) (fronts : List Front) (so_far : Option ℕ) : Type 0 where
   pub one_each : length fronts ≡ length entries
   pub each : (i : ℕ) → i < n → (f : Front) → IsFrontAt values entries i (get_or fronts i f)
@@ -134,7 +134,7 @@ longer_at : (values : List MatchedValue) (d : MatchedValue) (so_far : Option ℕ
 longer_at values d None place p same = ap (λ q. get_or values q d) same
 longer_at values d (Some q) place p longer = longer
 
--- with the next entry
+-- one more entry names its value
 pub one_more_front : (values : List MatchedValue) (entries : List Front) (n p : ℕ) (e : Front) (fronts : List Front) (so_far : Option ℕ)
     → n < length fronts → e ≡ get_or fronts n e → HasSoFar values entries n fronts so_far
     → p < length values → ((d : MatchedValue) → MatchOption so_far (p ≡ e.place)
@@ -167,12 +167,12 @@ one_more_front values entries n p e fronts so_far inside read known within longe
       longest = stays_longest;
     }
 
--- all of them
+-- all entries name their values
 pub all_fronts : (values : List MatchedValue) (entries fronts : List Front) (n : ℕ) (so_far : Option ℕ) → length fronts ≤ n
     → HasSoFar values entries n fronts so_far → HasFronts values entries fronts
 all_fronts values entries fronts n so_far all known = record { one_each = known.one_each; each = λ i less f. known.each i (omega (arith, known.one_each)) f }
 
--- the fronts rise by their enqueues' returns
+-- the fronts are sorted by their enqueues' returns
 pub fronts_rise : (values : List MatchedValue) (fronts : List Front) → IsTableOf values fronts → IsNonDecreasingBy (λ f. f.enqueue_return) fronts
 fronts_rise values fronts table i j f le inside =
     let upper : j < length table.0 = omega (arith, table.2.one_each) in
@@ -182,13 +182,13 @@ fronts_rise values fronts table i j f le inside =
     let rises = table.1.rises i j nowhere le upper in
     omega arith
 
--- the longest of a front is one of the values
+-- the value that stays longest in a prefix is one of the values
 pub longest_within : (values : List MatchedValue) (fronts : List Front) (i : ℕ) (front : Front) → IsTableOf values fronts → i < length fronts
     → front ≡ get_or fronts i front → front.place < length values
 longest_within values fronts i front table inside is = subst (λ (f : Front). f.place < length values) (sym is)
     (table.2.each i (omega (arith, table.2.one_each)) front).within
 
--- what the fronts tell of the values that entered before a limit, where the first i of them returned before it
+-- the values that entered before a limit, by the first i fronts, which are those before it
 module _ (values : List MatchedValue) (fronts : List Front) (limit i : ℕ) (table : IsTableOf values fronts)
     (point : IsPartitionPoint (λ (f : Front). ltb f.enqueue_return limit ≡ true) (λ (f : Front). ltb f.enqueue_return limit ≡ false) fronts i)
     (within : i ≤ length fronts) where
@@ -212,14 +212,14 @@ module _ (values : List MatchedValue) (fronts : List Front) (limit i : ℕ) (tab
       let no = ltb-false (get_or fronts k nowhere).enqueue_return limit (point.1 k nowhere after inside) in
       omega (arith, no, less, return_at d e k nowhere inside)
 
-  -- where no front is before the limit, no value entered before it
+  -- if no front is before the limit, no value entered before it
   pub none_before : i ≡ 0 → NonePasses (EntersBefore limit) values
   none_before none =
       let order = values_at values table.0 nobody in
       All-permutation (λ v. ¬ (EntersBefore limit v.life)) order values (IsPermutation-sym values order (table.1.are.each_once nobody))
       (All-from_get_or (λ v. ¬ (EntersBefore limit v.life)) order nobody (λ k inside. enters_not nobody nobody k (omega arith) (omega (arith, counted nobody))))
 
-  -- the last front before the limit names the value that stays longest of those before it
+  -- the last front before the limit names the value that stays longest among those before it
   pub longest_found : (last : ℕ) (front : Front) (d : MatchedValue) → last + 1 ≡ i → front ≡ get_or fronts last front
       → IsLongestOf (EntersBefore limit) values (get_or values front.place d)
   longest_found last front d is here =

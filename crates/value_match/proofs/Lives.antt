@@ -1,4 +1,4 @@
--- The lives that are listed are the lives that there are, and operations tell them apart.
+-- The listed lives are exactly the lives of the course, and operations tell them apart.
 use Rattle.value_match.proofs.Common.{[], All-contains, ap, arith, Bool, call_or_never, cases_Bool, cases_order}
 use Rattle.value_match.proofs.Common.{Contains, contains_at, contains_cons, Deq, dequeue_call, dequeue_of}
 use Rattle.value_match.proofs.Common.{dequeues_kind, Did, Enq, enqueue_of, eq-eqb, eqb-true, false, find, found_first}
@@ -8,7 +8,7 @@ use Rattle.value_match.proofs.Common.{OpKind, Option, PlacedLife, refl, same_enq
 use Rattle.value_match.proofs.Common.{true, ℕ, ◌<◌, ◌∙◌, ◌∷◌, ◌≡◌}
 use Rattle.value_match.proofs.Lists.{keeps, kept, mapped_to}
 
--- what follows if `find` gives nothing
+-- if `find` gives nothing, no element passes
 none_found : {X : Type 0} (p : X → Bool) (xs : List X) (x : X) → find p xs ≡ None → Contains xs x → p x ≡ false
 none_found p [] x none among = absurd (not_in_none x among)
 none_found p (z ∷ xs) x none among = elim (cases_Bool (p z)) [
@@ -23,7 +23,7 @@ dequeues v _ is = cc
 passes : (v : ℕ) (o : Operation) → o.kind ≡ Deq v → is_dequeue_of v o ≡ true
 passes v o is = rw (is, eq-eqb v v refl)
 
--- the dequeue that is found is one, and where none is found there is none
+-- the dequeue that is found is one of the value; if none is found, there is none
 pub found_dequeue : (operations : List Operation) (v : ℕ) (found : Option Operation) → find (is_dequeue_of v) operations ≡ found
     → MatchOption found (NoneDid operations (Deq v)) (λ d. Did operations d (Deq v))
 found_dequeue operations v None none = λ o among is. let fails = none_found (is_dequeue_of v) operations o none among in let clash : true ≡ false =
@@ -31,7 +31,7 @@ found_dequeue operations v None none = λ o among is. let fails = none_found (is
 found_dequeue operations v (Some d) same = let first = found_first (is_dequeue_of v) operations d same in
     (contains_at operations first.place d first.at, dequeues v d.kind first.passes)
 
--- a life that is listed is a life
+-- each listed life is a life
 pub life_of_contained : (operations : List Operation) (life : Life) → Contains (lives_of operations) life → IsLife (on operations) life
 life_of_contained operations life among =
     let o = kept (λ o. life_from operations o o.kind) operations life among in
@@ -43,7 +43,7 @@ life_of_contained operations life among =
         subst (IsLife (on operations)) made (v, (in_o, is), found_dequeue operations v (find (is_dequeue_of v) operations) refl)
     begun o in_o _ is same = cc
 
--- dequeues of one value are one, where the value was enqueued
+-- all dequeues of an enqueued value are equal
 pub same_dequeue : (operations : List Operation) (enq x y : Operation) (v : ℕ) → IsClear (on operations) → Did operations enq (Enq v)
     → Did operations x (Deq v) → Did operations y (Deq v) → x ≡ y
 same_dequeue operations enq x y v clear did did_x did_y =
@@ -52,7 +52,7 @@ same_dequeue operations enq x y v clear did did_x did_y =
     let more = λ (is : y.ret < x.ret). clear.no_repeat enq y x (record { value = v; enqueues = did; dequeues = did_y; dequeues_again = did_x; in_order = is }) in
     grind (arith, cases_order x.ret y.ret)
 
--- what is found where the value was enqueued is one answer
+-- the optional dequeue of an enqueued value is unique
 pub same_found : (operations : List Operation) (enq : Operation) (v : ℕ) (a b : Option Operation) → IsClear (on operations) → Did operations enq (Enq v)
     → MatchOption a (NoneDid operations (Deq v)) (λ d. Did operations d (Deq v))
     → MatchOption b (NoneDid operations (Deq v)) (λ d. Did operations d (Deq v)) → a ≡ b
@@ -61,7 +61,7 @@ same_found operations enq v None (Some d) clear did x y = absurd (x d y.0 y.1)
 same_found operations enq v (Some d) None clear did x y = absurd (y d x.0 x.1)
 same_found operations enq v (Some d) (Some e) clear did x y = ap (λ o. Some o) (same_dequeue operations enq d e v clear did x y)
 
--- a life is listed
+-- each life is listed
 pub life_is_contained : (operations : List Operation) (life : Life) → IsClear (on operations) → IsLife (on operations) life → Contains (lives_of operations) life
 life_is_contained operations life clear is =
     let v = is.0 in
@@ -69,7 +69,7 @@ life_is_contained operations life clear is =
     (found_dequeue operations v (find (is_dequeue_of v) operations) refl) is.2 in
     keeps (λ o. life_from operations o o.kind) operations (enqueue_of life) life is.1.0 (rw (is.1.1, dequeue) refl)
 
--- lives of one enqueue are one, and so are lives of one dequeue
+-- lives with the same enqueue are equal
 pub one_life_of_enqueue : (operations : List Operation) (x y : Life) → IsClear (on operations) → IsLife (on operations) x → IsLife (on operations) y
     → enqueue_of x ≡ enqueue_of y → x ≡ y
 one_life_of_enqueue operations x y clear is_x is_y same =
@@ -78,7 +78,7 @@ one_life_of_enqueue operations x y clear is_x is_y same =
     let dequeues = same_found operations (enqueue_of x) is_x.0 (dequeue_of x) (dequeue_of y) clear is_x.1 is_x.2 y_dequeue in
     λ i. record { enqueue = same i; dequeue = dequeues i }
 
--- a dequeue ends one life
+-- lives with the same dequeue are equal
 pub one_life_of_dequeue : (operations : List Operation) (x y : Life) (d : Operation) → IsClear (on operations) → IsLife (on operations) x → IsLife (on operations) y
     → dequeue_of x ≡ Some d → dequeue_of y ≡ Some d → x ≡ y
 one_life_of_dequeue operations x y d clear is_x is_y same_x same_y =
@@ -88,7 +88,7 @@ one_life_of_dequeue operations x y d clear is_x is_y same_x same_y =
     let enq_y : Did operations (enqueue_of y) (Enq is_x.0) = rw values is_y.1 in
     one_life_of_enqueue operations x y clear is_x is_y (same_enqueue operations (enqueue_of x) (enqueue_of y) is_x.0 clear.complete is_x.1 enq_y)
 
--- a value that is called for before the last ticket is over is dequeued
+-- a value whose dequeue is called before `NEVER` is dequeued
 pub dequeued_if_called : (life : Life) → dequeue_call life < NEVER → (d : Operation) × (dequeue_of life ≡ Some d)
 dequeued_if_called life less = go (dequeue_of life) refl less
   where
@@ -96,13 +96,13 @@ dequeued_if_called life less = go (dequeue_of life) refl less
     go None same less = absurd (omega arith)
     go (Some d) same less = (d, same)
 
--- each value that is held is a life, and each life is that of a value
+-- each listed value is a life
 pub value_is_life : (operations : List Operation) (values : List PlacedLife) (value : PlacedLife) → HoldsLives operations values
     → Contains values value → IsLife (on operations) value.life
 value_is_life operations values value holds among =
     life_of_contained operations value.life (subst (λ lives. Contains lives value.life) holds.0 (mapped_to (λ m. m.life) values value among))
 
--- its places are those of its operations
+-- the places of a value are those of its operations
 pub places_of_value : (operations : List Operation) (values : List PlacedLife) (value : PlacedLife) → HoldsLives operations values → Contains values value
     → HasPlaces operations value
 places_of_value operations values value holds among =

@@ -1,4 +1,5 @@
--- The one dequeue of each source and of each accepted value, or the chosen pair of one source, met by walks over the operations.
+-- The one dequeue of each source and of each enqueued value, or the chosen pair of one source, found by walks over
+-- the operations.
 use Rattle.value_match.proofs.Common.{AllPairs, ap, AreChosenRepeat, AreComplete, arith, cases_eq, cases_order}
 use Rattle.value_match.proofs.Common.{contains_at, Deq, Did, Enq, enqueued_value, find, get_or, get_or-set_other}
 use Rattle.value_match.proofs.Common.{get_or-set_same, HasTakersTo, HoldsDequeues, inl, inr, is_dequeue_of, IsAt}
@@ -10,7 +11,7 @@ use Rattle.value_match.proofs.Common.{sym, TakesFrom, zero, ℕ, ⊤, ◌+◌, �
 use Rattle.value_match.proofs.FreshDequeues.{calls_for}
 use Rattle.value_match.proofs.Lives.{found_dequeue, same_found}
 
--- ---- what takes from a call
+-- ---- the operations that take from a call
 
 -- an operation of a complete history has one place
 pub one_place : (operations : List Operation) (i j : ℕ) (o : Operation) → AreComplete operations → IsAt operations i o → IsAt operations j o → i ≡ j
@@ -20,7 +21,7 @@ one_place operations i j o complete at_i at_j =
     let down = pairs_at (λ x y. x.call < y.call) operations j i o o rise in
     grind (arith, cases_order i j)
 
--- an operation with a source takes from it
+-- a dequeue with a source takes from it
 pub takes_source : (operations : List Operation) (i p : ℕ) (o : Operation) → IsAt operations i o → IsSourceOf operations o.kind (Some p)
     → TakesFrom operations i p
 takes_source operations i p o here source = pick o.kind refl source
@@ -29,7 +30,7 @@ takes_source operations i p o here source = pick o.kind refl source
     pick (Deq v) is call = record { value = v; dequeue = o; at = here; dequeues = is; from_call = call }
     pick _ is wrong = cc
 
--- one without a source takes from nothing
+-- an operation without a source takes from nothing
 pub takes_no_source : (operations : List Operation) (i : ℕ) (o : Operation) → IsAt operations i o → IsSourceOf operations o.kind None
     → (p : ℕ) → ¬ (TakesFrom operations i p)
 takes_no_source operations i o here none p t =
@@ -37,9 +38,9 @@ takes_no_source operations i o here none p t =
     let (call, there, calls) = t.from_call in
     (rw is at none) call (contains_at operations p call there) calls
 
--- what takes from a call
+-- the operations that take from a call
 module _ (operations : List Operation) (complete : AreComplete operations) where
-  -- an operation takes from one call
+  -- each operation takes from at most one call
   pub one_source : (i p q : ℕ) → TakesFrom operations i p → TakesFrom operations i q → p ≡ q
   one_source i p q x y =
       let kinds : Deq x.value ≡ Deq y.value =
@@ -60,7 +61,7 @@ module _ (operations : List Operation) (complete : AreComplete operations) where
       (contains_at operations j y.dequeue y.at) (sym ret_i ∙ same ∙ ret_j) in
       one_place operations i j y.dequeue complete (subst (IsAt operations i) one x.at) y.at
 
--- what is taken from is one of the operations
+-- each source is one of the operations
 pub source_inside : (operations : List Operation) (i p : ℕ) → TakesFrom operations i p → p < length operations
 source_inside operations i p t = slice_get_within operations p t.from_call.0 t.from_call.1
 
@@ -70,7 +71,7 @@ pub takes_from_enqueue : (operations : List Operation) (i p : ℕ) (o enq : Oper
 takes_from_enqueue operations i p o enq v here is there accepted =
     record { value = v; dequeue = o; at = here; dequeues = is; from_call = (enq, there, ap enqueued_value accepted) }
 
--- where each dequeued value was there, it takes from a successful enqueue
+-- without phantom dequeues, each dequeue takes from a successful enqueue
 pub accepted_call : (operations : List Operation) (i p : ℕ) → NoFreshViolation (on operations) → (t : TakesFrom operations i p)
     → (t.from_call.0).kind ≡ Enq t.value
 accepted_call operations i p no_fresh t = elim (calls_for (t.from_call.0).kind t.value t.from_call.2) [
@@ -82,14 +83,14 @@ accepted_call operations i p no_fresh t = elim (calls_for (t.from_call.0).kind t
   }))
 ]
 
--- ---- what takes from the calls, noted while the first operations are settled
+-- ---- the takers of the calls, noted while the prefix is matched
 
 none_at : (n i : ℕ) → get_or {A = Option ℕ} (replicate n None) i None ≡ None
 none_at zero i = refl
 none_at (suc n) zero = refl
 none_at (suc n) (suc i) = none_at n i
 
--- of no operations none takes from a call
+-- among no operations none takes from a call
 pub no_takers : (operations : List Operation) → HasTakersTo operations 0 (replicate (length operations) None)
 no_takers operations = record {
   one_each = length-replicate (length operations) None;
@@ -97,7 +98,7 @@ no_takers operations = record {
   takes = λ i p below from. absurd (omega (arith, below));
 }
 
--- an operation that takes from nothing
+-- one more operation that takes from nothing
 pub takes_nothing : (operations : List Operation) (n : ℕ) (takers : List (Option ℕ)) → ((p : ℕ) → ¬ (TakesFrom operations n p))
     → HasTakersTo operations n takers → HasTakersTo operations (n + 1) takers
 takes_nothing operations n takers none known = record {
@@ -109,7 +110,7 @@ takes_nothing operations n takers none known = record {
   ];
 }
 
--- one that takes from a call from which nothing took
+-- one more operation that takes from a call, which had no taker
 pub takes_first : (operations : List Operation) (n q : ℕ) (takers : List (Option ℕ)) → AreComplete operations → TakesFrom operations n q
     → get_or takers q None ≡ None → HasTakersTo operations n takers → HasTakersTo operations (n + 1) (set takers q (Some n))
 takes_first operations n q takers complete here free known = record {
@@ -134,16 +135,16 @@ takes_first operations n q takers complete here free known = record {
     now : get_or (set takers q (Some n)) q None ≡ Some n
     now = get_or-set_same takers q (Some n) None (let inside = source_inside operations n q here in omega (arith, inside, known.one_each))
 
--- ---- the walk over the others
+-- ---- the walk over the operations after the prefix
 
--- of the first n operations that take from a place the one that returns first
+-- for each source the operation that takes from it and returns first, among the first n
 pub record HasFirsts (operations : List Operation) (firsts : List (Option ℕ)) (n : ℕ) : Type 0 where
   pub one_each : length firsts ≡ length operations
   pub taken : (p i : ℕ) → get_or firsts p None ≡ Some i → (i < n) × TakesFrom operations i p
   pub least : (i p : ℕ) → i < n → TakesFrom operations i p
       → (first : ℕ) × (get_or firsts p None ≡ Some first) × (return_at operations first ≤ return_at operations i)
 
--- two operations that take from one place; of such pairs among the first n operations the later one of none returns sooner
+-- two operations that take from one place; no pair among the first n operations has a later one that returns sooner
 pub record IsSoonest (operations : List Operation) (n : ℕ) (pair : RepeatPlaces) : Type 0 where
   pub first_from : TakesFrom operations pair.first pair.enq
   pub second_from : TakesFrom operations pair.second pair.enq
@@ -155,16 +156,16 @@ pub record IsSoonest (operations : List Operation) (n : ℕ) (pair : RepeatPlace
 abbrev pub Once : List Operation → ℕ → Type 0
 Once operations n = (p i j : ℕ) → i < n → j < n → TakesFrom operations i p → TakesFrom operations j p → i ≡ j
 
--- no two take from one place, or the soonest pair
+-- no two of the first n operations take from one place, or the soonest pair that does
 abbrev pub Twice : List Operation → ℕ → Option RepeatPlaces → Type 0
 Twice operations n found = MatchOption found (Once operations n) (IsSoonest operations n)
 
--- what was met of the first n operations
+-- the state of the walk after the first n operations
 pub record HasMet (operations : List Operation) (firsts : List (Option ℕ)) (n : ℕ) (found : Option RepeatPlaces) : Type 0 where
   pub kept : HasFirsts operations firsts n
   pub twice : Twice operations n found
 
--- what is known of settled operations was met, and no two that take from one place
+-- the walk begins with the takers of the prefix
 pub met_once : (operations : List Operation) (takers : List (Option ℕ)) (n : ℕ) → HasTakersTo operations n takers → HasMet operations takers n None
 met_once operations takers n known = record {
   kept = record { one_each = known.one_each; taken = known.taken; least = λ i p below from. (i, known.takes i p below from, omega arith) };
@@ -172,7 +173,7 @@ met_once operations takers n known = record {
       let both : ◌≡◌ {A = Option ℕ} (Some i) (Some j) = sym (known.takes i p below_i from_i) ∙ known.takes j p below_j from_j in cc;
 }
 
--- what was met of the first n operations, where each two of one place that are among n + 1 are among n
+-- one more operation that adds no pair
 met_more : (operations : List Operation) (n : ℕ) (found : Option RepeatPlaces)
     → ((q i j : ℕ) → i < n + 1 → j < n + 1 → TakesFrom operations i q → TakesFrom operations j q → i ≢ j → (i < n) × (j < n))
     → Twice operations n found → Twice operations (n + 1) found
@@ -189,7 +190,7 @@ met_more operations n (Some pair) before is = record {
       is.soonest q i j was.0 was.1 from_i from_j less;
 }
 
--- an operation that takes from nothing
+-- one more operation that takes from nothing
 pub met_skip : (operations : List Operation) (firsts : List (Option ℕ)) (n : ℕ) (found : Option RepeatPlaces) → ((p : ℕ) → ¬ (TakesFrom operations n p))
     → HasMet operations firsts n found → HasMet operations firsts (n + 1) found
 met_skip operations firsts n found none met = record {
@@ -207,18 +208,18 @@ met_skip operations firsts n found none met = record {
       | inr before ↦ omega arith
     ]
 
--- what is known of a pair that is made of two places in the order of their returns
+-- a pair made of two places, in the order of their returns
 pub record IsPairOf (returns : ℕ → ℕ) (p i j : ℕ) (pair : RepeatPlaces) : Type 0 where
   pub enq : pair.enq ≡ p
   pub in_order : returns pair.first ≤ returns pair.second
   pub both : ((pair.first ≡ i) × (pair.second ≡ j)) ⊎ ((pair.first ≡ j) × (pair.second ≡ i))
 
--- it is the pair, or the one found before if that is no later
+-- the pair, or the one found before, if that is no later
 abbrev pub IsSoonerOf : (ℕ → ℕ) → Option RepeatPlaces → RepeatPlaces → RepeatPlaces → Type 0
 IsSoonerOf returns found pair result = MatchOption found (result ≡ pair)
     (λ f. ((result ≡ f) × (returns f.second ≤ returns pair.second)) ⊎ ((result ≡ pair) × (returns pair.second ≤ returns f.second)))
 
--- what is known of the ends of a pair that is made of a place before n, and of n
+-- facts about a pair made of a place before n, and of n
 record Ends (operations : List Operation) (n p other : ℕ) (pair : RepeatPlaces) : Type 0 where
   pub first_below : pair.first < n + 1
   pub first_from : TakesFrom operations pair.first p
@@ -229,14 +230,14 @@ record Ends (operations : List Operation) (n p other : ℕ) (pair : RepeatPlaces
   pub second_least : (m : ℕ) → return_at operations other ≤ m → return_at operations n ≤ m → return_at operations pair.second ≤ m
 
 module _ (operations : List Operation) (complete : AreComplete operations) (firsts : List (Option ℕ)) (n p : ℕ) (from : TakesFrom operations n p) where
-  -- what takes from another place is another operation
+  -- an operation that takes from another place is another operation
   other_source : (i q : ℕ) → q ≢ p → i < n + 1 → TakesFrom operations i q → i < n
   other_source i q other below from_i = elim (cases_eq i n) [
     | inl last ↦ absurd (other (one_source operations complete n q p (subst (λ k. TakesFrom operations k q) last from_i) from))
     | inr before ↦ omega arith
   ]
 
-  -- the first operations by source, after one that returns no later than those before it of its source
+  -- the first operations by source, once one is kept that returns no later than those of its source before it
   firsts_more : (first : ℕ) → first < n + 1 → TakesFrom operations first p → return_at operations first ≤ return_at operations n
       → ((i : ℕ) → i < n → TakesFrom operations i p → return_at operations first ≤ return_at operations i)
       → HasFirsts operations firsts n → HasFirsts operations (set firsts p (Some first)) (n + 1)
@@ -267,7 +268,7 @@ module _ (operations : List Operation) (complete : AreComplete operations) (firs
       now : get_or (set firsts p (Some first)) p None ≡ Some first
       now = get_or-set_same firsts p (Some first) None (let inside = source_inside operations n p from in omega (arith, inside, known.one_each))
 
-  -- the first operation with its source
+  -- one more operation, the first with its source
   pub met_first : (found : Option RepeatPlaces) → get_or firsts p None ≡ None → HasMet operations firsts n found
       → HasMet operations (set firsts p (Some n)) (n + 1) found
   met_first found free met = record {
@@ -284,7 +285,7 @@ module _ (operations : List Operation) (complete : AreComplete operations) (firs
       only : (i : ℕ) → i < n + 1 → TakesFrom operations i p → i ≡ n
       only i below from_i = elim (cases_eq i n) [ inl last ↦ last | inr before ↦ absurd (alone i (omega arith) from_i) ]
 
-  -- one more operation with a source that another has
+  -- one more operation, whose source has a taker
   pub met_again : (other : ℕ) (found : Option RepeatPlaces) (pair result : RepeatPlaces) → get_or firsts p None ≡ Some other
       → IsPairOf (return_at operations) p other n pair → IsSoonerOf (return_at operations) found pair result → HasMet operations firsts n found
       → HasMet operations (set firsts p (Some pair.first)) (n + 1) (Some result)
@@ -309,11 +310,11 @@ module _ (operations : List Operation) (complete : AreComplete operations) (firs
             second_least = λ m low high. grind arith;
           }
 
-      -- the kept first returns no later than any before it
+      -- the kept operation returns no later than any before it
       least : (i : ℕ) → i < n → TakesFrom operations i p → return_at operations other ≤ return_at operations i
       least i below from_i = let found' = met.kept.least i p below from_i in grind arith
 
-      -- a pair that this operation is of is no sooner
+      -- no pair with this operation is sooner
       no_sooner : (q i j : ℕ) → i < n + 1 → j < n + 1 → TakesFrom operations i q → TakesFrom operations j q
           → return_at operations i < return_at operations j → (i < n) × (j < n) ⊎ (return_at operations pair.second ≤ return_at operations j)
       no_sooner q i j low high from_i from_j less = elim (cases_eq q p) [
@@ -354,9 +355,9 @@ module _ (operations : List Operation) (complete : AreComplete operations) (firs
       twice (Some f) (inr (is, sooner')) old =
           rw is (soonest_pair (λ q i j low high from_i from_j less. let before = old.soonest q i j low high from_i from_j less in omega arith))
 
--- ---- what the walk ends with
+-- ---- the end of the walk
 
--- the later one of the pair that was found is one of the operations
+-- the later operation of the pair found is one of the operations
 pub found_inside : (operations : List Operation) (n : ℕ) (found : Option RepeatPlaces) → Twice operations n found
     → MatchOption found ⊤ (λ f. f.second < length operations)
 found_inside operations n None met = tt
@@ -405,7 +406,7 @@ repeat_chosen operations n pair no_fresh all is =
       },
     )
 
--- a walk over all operations that meets no two of one place leaves the one operation that takes from each
+-- if all operations take from different places, the kept ones are their takers
 pub once_taken : (operations : List Operation) (firsts : List (Option ℕ)) (n : ℕ) → length operations ≤ n → HasFirsts operations firsts n
     → Once operations n → HasTakersTo operations (length operations) firsts
 once_taken operations firsts n all known once = record {
@@ -417,7 +418,7 @@ once_taken operations firsts n all known once = record {
       first.1 ∙ ap (λ k. Some k) (once p first.0 i was.0 (omega arith) was.1 from);
 }
 
--- ---- the dequeues by their enqueues
+-- ---- the dequeue of each enqueue
 
 -- the taker of each enqueue is the dequeue of its value
 pub dequeues_by_enqueues : (operations : List Operation) (takers : List (Option ℕ)) → NoFreshViolation (on operations)
@@ -441,7 +442,7 @@ dequeues_by_enqueues operations takers no_fresh taken = record {
         let value : t.value ≡ v = cc in
         (t.dequeue, t.at, t.dequeues ∙ ap Deq value)
 
--- the dequeue at the place is the one that is found
+-- the dequeue at this place is the one that `find` gives
 pub found_at_place : (operations : List Operation) (enq : Operation) (v : ℕ) (place : Option ℕ) (dequeue : Option Operation) → IsClear (on operations)
     → Did operations enq (Enq v) → IsDequeuePlace operations v place
     → IsMaybeAt operations place dequeue → dequeue ≡ find (is_dequeue_of v) operations
@@ -455,7 +456,7 @@ found_at_place operations enq v place dequeue clear did is at =
     named (Some p) (Some d) (x, at_x, dequeues) there = (contains_at operations p d there, cc)
     named _ _ is there = absurd there
 
--- then no value is dequeued that was not there, and none twice
+-- with one taker each, there is no violation of the first two kinds
 pub clear_from_takers : (operations : List Operation) (takers : List (Option ℕ)) → AreComplete operations → NoFreshViolation (on operations)
     → HasTakersTo operations (length operations) takers → IsClear (on operations)
 clear_from_takers operations takers complete no_fresh taken = record {

@@ -1,4 +1,4 @@
--- The operations sorted out by what they did, met by a walk over them.
+-- The operations sorted by kind, in a walk over them.
 use Rattle.value_match.proofs.Common.{[], All, All-get_or, All-push, ap, append-nil, Bool, cases_Bool, cond}
 use Rattle.value_match.proofs.Common.{cons_option, contains_at, dequeue_of, Enq, enqueue_of, filter, filter-append}
 use Rattle.value_match.proofs.Common.{filter_map, filter_map-append, find, get_or, get_or-map, get_or_from_slice_get}
@@ -10,7 +10,7 @@ use Rattle.value_match.proofs.Common.{take, value_at, ℕ, ◌++◌, ◌+◌, �
 use Rattle.value_match.proofs.RepeatedDequeues.{found_at_place}
 use Rattle.value_match.proofs.Lists.{one_more}
 
--- what the first n operations did
+-- the first n operations by kind
 pub record IsSortedOut (operations : List Operation) (n : ℕ) (values : List PlacedLife) (empties refused : List ℕ) : Type 0 where
   pub lives : map (λ m. m.life) values ≡ filter_map (λ o. life_from operations o o.kind) (take n operations)
   pub places : All (HasPlaces operations) values
@@ -31,7 +31,7 @@ lives_more operations i o life lives here is known =
 
 module _ (operations : List Operation) (i : ℕ) (o : Operation) (values : List PlacedLife) (empties refused : List ℕ) (here : IsAt operations i o)
     (known : IsSortedOut operations i values empties refused) where
-  -- the places of those that pass a test, with this one if it passes
+  -- the places of the operations that pass a test, with this one if it passes
   places_more : (test : Operation → Bool) (places : List ℕ) → map (slice_get operations) places ≡ map Some (filter test (take i operations))
       → map (slice_get operations) (cond (test o) (places ++ i ∷ []) places) ≡ map Some (filter test (take (i + 1) operations))
   places_more test places known' = rw (taken_more operations i o here, filter-append) (elim (cases_Bool (test o)) [
@@ -39,7 +39,7 @@ module _ (operations : List Operation) (i : ℕ) (o : Operation) (values : List 
     | inr is ↦ rw (is, append-nil) known'
   ])
 
-  -- one more, a successful enqueue, is sorted out with its dequeue
+  -- one more successful enqueue, with its dequeue
   pub sorted_enqueue : (v : ℕ) (m : PlacedLife) (place : Option ℕ) → o.kind ≡ Enq v → IsAt operations i (enqueue_of m.life)
       → IsMaybeAt operations place (dequeue_of m.life) → (m.enqueue ≡ i) × (m.dequeue ≡ place)
       → IsClear (on operations) → IsDequeuePlace operations v place → IsSortedOut operations (i + 1) (values ++ m ∷ []) empties refused
@@ -64,7 +64,7 @@ module _ (operations : List Operation) (i : ℕ) (o : Operation) (values : List 
           λ t. record { enqueue = same t; dequeue = sym found t } in
           subst (λ kind. life_from operations o kind ≡ Some m.life) (sym is) (ap (λ l. Some l) made)
 
-  -- one more, no successful enqueue, is sorted out: a dequeue adds nothing, as it stands beside its enqueue
+  -- one more operation that is no successful enqueue; a dequeue adds nothing, since it is listed with its enqueue
   pub sorted_other : life_from operations o o.kind ≡ None → IsSortedOut operations (i + 1) values (cond (is_empty_answer o) (empties ++ i ∷ []) empties)
       (cond (is_refused o) (refused ++ i ∷ []) refused)
   sorted_other none = record {
@@ -79,7 +79,7 @@ module _ (operations : List Operation) (i : ℕ) (o : Operation) (values : List 
 read_back : (operations : List Operation) (place : ℕ) (o : Operation) → IsAt operations place o → operation_at operations place ≡ o
 read_back operations place o at = get_or_from_slice_get operations place o _ at
 
--- the value of a pair of places
+-- the enqueue of a pair is that at its place
 pub pair_enqueue : (operations : List Operation) (i : ℕ) (o : Operation) (pair : Pair) → pair.enqueue ≡ i → IsAt operations i o
     → IsAt operations i (enqueue_of (value_at operations pair).life)
 pair_enqueue operations i o pair is here = subst (IsAt operations i) (sym (ap (operation_at operations) is ∙ read_back operations i o here)) here

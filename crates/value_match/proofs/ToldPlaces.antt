@@ -1,4 +1,4 @@
--- What is found at places of a timeline, told by places of the history.
+-- Translation of places in a timeline to places in the history.
 use Rattle.value_match.proofs.Common.{[], ap, ap₂, AreChosenFresh, AreChosenRepeat, AreComplete, ArePlacesOf, arith}
 use Rattle.value_match.proofs.Common.{behind, Bool, cases_Bool, cases_lt, cond, cons_option, Contains}
 use Rattle.value_match.proofs.Common.{Contains-append_cases, Contains-append_left, Contains-append_right, contains_at}
@@ -28,7 +28,7 @@ use Rattle.value_match.specs.declared.violation.Violation.TheVariants as violati
 
 -- ---- the lives of a cover
 
--- each of the lives is an enqueue, and a dequeue if there is one
+-- each life is an enqueue, with a dequeue if it has one
 abbrev pub AreLives : List Life → Type 0
 AreLives [] = ⊤
 AreLives (life ∷ cover) = ((v : ℕ) × ((enqueue_of life).kind ≡ Enq v)) × MatchOption (dequeue_of life) ⊤ (λ d. (v : ℕ) × (d.kind ≡ Deq v)) × AreLives cover
@@ -39,7 +39,7 @@ pub dequeues : (operations : List Operation) (v : ℕ) (d : Option Operation) �
 dequeues operations v None none = tt
 dequeues operations v (Some d) did = (v, did.1)
 
--- the lives of a cover
+-- the values of a cover are lives
 pub covers_are_lives : (operations : List Operation) (empty : Operation) (frontier : ℕ) (cover : List Life) → CoversFrom (on operations) empty frontier cover
     → AreLives cover
 covers_are_lives operations empty frontier [] covers = absurd covers
@@ -51,13 +51,13 @@ covers_are_lives operations empty frontier (life ∷ next ∷ rest) covers = (
   covers_are_lives operations empty (dequeue_call life) (next ∷ rest) covers.3,
 )
 
--- ---- the operations of the timeline: the enqueues of the initial values, and the operations, later
+-- ---- the timeline: the enqueues of the initial values, and then the operations at their times
 
--- operations with the same parts are one
+-- operations with equal parts are equal
 pub same_operation : (a b : Operation) → a.call ≡ b.call → a.ret ≡ b.ret → a.thread ≡ b.thread → a.kind ≡ b.kind → a ≡ b
 same_operation a b call ret thread kind = λ i. record { call = call i; ret = ret i; thread = thread i; kind = kind i }
 
--- what stands at a place of the enqueues
+-- the enqueue at a place of the initial enqueues
 at_enqueues_from : (n : ℕ) (initial : List ℕ) (j : ℕ) → slice_get (enqueues_from n initial) j ≡ option_map (enqueue_at (n + j)) (slice_get initial j)
 at_enqueues_from n [] j = cc
 at_enqueues_from n (v ∷ rest) zero = ap (λ o. Some o) (same_operation _ _ (omega arith) (omega arith) refl refl)
@@ -69,7 +69,7 @@ pub at_enqueue : (initial : List ℕ) (j : ℕ)
     → slice_get (initial_enqueues initial) j ≡ option_map (initial_enqueue (length initial) j) (slice_get initial j)
 at_enqueue initial j = at_enqueues_from (ORIGIN - length initial) initial j
 
--- what a mapped option holds comes from what is mapped
+-- the value in a mapped option comes from one in the option
 pub mapped_option : {A B : Type 0} (f : A → B) (o : Option A) (y : B) → option_map f o ≡ Some y → (x : A) × (o ≡ Some x) × (f x ≡ y)
 mapped_option f None y is = cc
 mapped_option f (Some x) y is = (x, refl, cc)
@@ -81,20 +81,20 @@ enqueue_place initial o among =
     let at = place_of (initial_enqueues initial) o among in
     let (v, stands, is) = mapped_option (initial_enqueue (length initial) at.0) (slice_get initial at.0) o (sym (at_enqueue initial at.0) ∙ at.1) in (at.0, v, stands, is)
 
--- and each such enqueue stands there
+-- each such enqueue is at this place
 pub enqueue_stands : (initial : List ℕ) (j v : ℕ) → slice_get initial j ≡ Some v → Contains (initial_enqueues initial) (initial_enqueue (length initial) j v)
 enqueue_stands initial j v at =
     contains_at (initial_enqueues initial) j (initial_enqueue (length initial) j v)
     (at_enqueue initial j ∙ ap (option_map (initial_enqueue (length initial) j)) at)
 
--- operations that are one when later are one
+-- operations that are equal when moved later are equal
 pub one_later : (n : ℕ) (x y : Operation) → later_by n x ≡ later_by n y → x ≡ y
 one_later n x y same =
     let calls : x.call + n ≡ y.call + n = ap (λ (o : Operation). o.call) same in
     let returns : x.ret + n ≡ y.ret + n = ap (λ (o : Operation). o.ret) same in
     same_operation x y (omega arith) (omega arith) (ap (λ (o : Operation). o.thread) same) (ap (λ (o : Operation). o.kind) same)
 
--- an operation called later is one of the operations
+-- an operation called after the initial values is one of the operations
 pub called_late : (initial : List ℕ) (operations : List Operation) (o x : Operation) → length initial ≤ MAX_INITIAL → ORIGIN ≤ o.call → later_by ORIGIN x ≡ o
     → Contains operations x ↔ Contains (timeline initial operations) o
 called_late initial operations o x few late is = (
@@ -114,15 +114,15 @@ called_late initial operations o x few late is = (
         let found = mapped_from (later_by ORIGIN) operations o there in
         subst (Contains operations) (one_later ORIGIN found.0 x (found.2 ∙ sym is)) found.1
 
--- ---- what stands at a place of the timeline
+-- ---- the operation at a place of the timeline
 
--- a place behind the first list is one of the second
+-- an element after the first list is one of the second
 pub get_behind : {X : Type 0} (xs ys : List X) (n p : ℕ) → n ≡ length xs → n ≤ p → slice_get (xs ++ ys) p ≡ slice_get ys (p - n)
 get_behind [] ys n p is within = ap (slice_get ys) (omega arith)
 get_behind (x ∷ xs) ys n zero is within = absurd (omega arith)
 get_behind (x ∷ xs) ys n (suc p) is within = get_behind xs ys (n - 1) p (omega arith) (omega arith) ∙ ap (slice_get ys) (omega arith)
 
--- the place of an initial value, or of an operation after these
+-- the operation at a place of the timeline: an initial enqueue, or an operation after these
 pub at_timeline : (initial : List ℕ) (operations : List Operation) (p : ℕ)
     → ((p < length initial) × (slice_get (timeline initial operations) p ≡ option_map (initial_enqueue (length initial) p) (slice_get initial p)))
     ⊎ ((length initial ≤ p) × (slice_get (timeline initial operations) p
@@ -147,14 +147,14 @@ pub record IsInitialEnqueueAt (initial : List ℕ) (p : ℕ) (x : Operation) : T
   pub stands : slice_get initial p ≡ Some value
   pub is : initial_enqueue (length initial) p value ≡ x
 
--- or an operation, later, behind the initial values
+-- the operation at a place of the timeline is one of the history, moved later
 pub record IsLaterAt (initial : List ℕ) (operations : List Operation) (p : ℕ) (x : Operation) : Type 0 where
   pub operation : Operation
   pub behind : length initial ≤ p
   pub stands : slice_get operations (p - length initial) ≡ Some operation
   pub is : later_by ORIGIN operation ≡ x
 
--- at a place of the timeline stands the enqueue of an initial value, or an operation, later
+-- each place of the timeline has the enqueue of an initial value, or an operation moved later
 pub timeline_at : (initial : List ℕ) (operations : List Operation) (p : ℕ) (x : Operation) → slice_get (timeline initial operations) p ≡ Some x
     → IsInitialEnqueueAt initial p x ⊎ IsLaterAt initial operations p x
 timeline_at initial operations p x at = elim (at_timeline initial operations p) [
@@ -168,7 +168,7 @@ timeline_at initial operations p x at = elim (at_timeline initial operations p) 
 
 -- ---- the operations of a `YES`
 
--- an operation of the timeline as it was, where it isn't the enqueue of an initial value
+-- an operation of the timeline, moved back to its tickets, or none for an initial enqueue
 abbrev pub earlier : ℕ → Operation → Option Operation
 earlier n o = cond (nat_lt o.call n) None (Some (record { call = o.call - n; ret = o.ret - n; thread = o.thread; kind = o.kind }))
 
@@ -176,7 +176,7 @@ earlier n o = cond (nat_lt o.call n) None (Some (record { call = o.call - n; ret
 pub earlier_none : (n : ℕ) (o : Operation) → o.call < n → earlier n o ≡ None
 earlier_none n o early = rw (lt-ltb o.call n early) refl
 
--- an operation that is moved later and back is as it was
+-- an operation moved later and back is itself
 pub earlier_later : (n : ℕ) (o : Operation) → earlier n (later_by n o) ≡ Some o
 earlier_later n o = rw (le-ltb (o.call + n) n (omega arith)) (ap (λ x. Some x) (same_operation _ o (omega arith) (omega arith) refl refl))
 
@@ -192,28 +192,28 @@ later_earlier n [] = refl
 later_earlier n (o ∷ operations) =
     rw (earlier_later n o, later_earlier n operations) refl
 
--- without the enqueues of the initial values it is what stands after these
+-- the timeline without the initial enqueues, moved back, is the list of the operations
 pub timeline_earlier : (initial : List ℕ) (listed : List Operation) → length initial ≤ MAX_INITIAL → filter_map (earlier ORIGIN) (timeline initial listed) ≡ listed
 timeline_earlier initial listed few =
     enqueues_earlier (ORIGIN - length initial) ORIGIN initial (map (later_by ORIGIN) listed) (omega arith) ∙ later_earlier ORIGIN listed
 
--- a timeline that is complete has no more initial values than come before the first ticket
+-- a complete timeline has no more initial values than come before the first ticket
 pub few_initial : (initial : List ℕ) (operations : List Operation) → AreComplete (timeline initial operations) → length initial ≤ MAX_INITIAL
 few_initial [] operations complete = omega arith
 few_initial (v ∷ rest) operations complete =
     let first = (complete.timed zero (enqueue_at 0 0) (omega arith)).above_zero in omega (arith, first)
 
--- ---- what is found at places of a timeline, told by places of the history
+-- ---- places in a timeline as places in the history
 
--- ---- what stands at a place of the timeline
+-- ---- the operation at a place of the timeline
 
--- the dequeue of a value that was not there is a dequeue
+-- a phantom dequeue is a dequeue
 pub fresh_dequeues : (operations : List Operation) (deq : Operation) (enq : Option Operation) → IsFreshViolation (on operations) deq enq
     → (v : ℕ) × (deq.kind ≡ Deq v)
 fresh_dequeues operations deq None is = (is.value, is.dequeues.1)
 fresh_dequeues operations deq (Some enq) is = (is.value, is.dequeues.1)
 
--- those that pass a test which doesn't look at times, at their times
+-- filtering commutes with moving to times, for a test that doesn't look at times
 pub filter_timed : (test : Operation → Bool) → ((o : Operation) → test (later_by ORIGIN o) ≡ test o) → (os : List Operation)
     → filter test (timed os) ≡ timed (filter test os)
 filter_timed test same [] = refl
@@ -222,7 +222,7 @@ filter_timed test same (o ∷ os) = elim (cases_Bool (test o)) [
   | inr is ↦ rw (same o, is) (filter_timed test same os)
 ]
 
--- operations at places, at their times
+-- the operations at places, at their times
 pub places_timed : (operations : List Operation) (places : List ℕ) (listed : List Operation) → ArePlacesOf operations places listed
     → ArePlacesOf (timed operations) places (timed listed)
 places_timed operations [] [] at = refl
@@ -240,30 +240,30 @@ module _ (initial : List ℕ) (operations : List Operation) where
   abbrev all : List Operation
   all = timeline initial operations
 
-  -- what stands at a place of the history stands behind the initial values
+  -- an operation at a place of the history is after the initial values in the timeline
   pub operation_on : (p : ℕ) (o : Operation) → IsOperation operations p o → IsAt all (behind k p) o
   operation_on p o at =
       get_behind (initial_enqueues initial) (timed operations) k (k + p)
       (sym (length_enqueues (ORIGIN - k) initial)) (omega arith)
       ∙ ap (slice_get (timed operations)) (omega arith) ∙ at
 
-  -- the same where there is one
+  -- the same for an optional operation
   pub maybe_on : (p : Option ℕ) (o : Option Operation) → IsMaybeOperation operations p o → IsMaybeAt all (option_map (behind k) p) o
   maybe_on None None at = tt
   maybe_on (Some p) (Some o) at = operation_on p o at
   maybe_on _ _ at = absurd assumption
 
-  -- the enqueue of an initial value stands at its place
+  -- the enqueue of an initial value is at its place in the timeline
   early_at : (p : ℕ) → p < k → slice_get all p ≡ option_map (initial_enqueue k p) (slice_get initial p)
   early_at p within = let many = length_enqueues (ORIGIN - k) initial in
       slice_get-append_left (initial_enqueues initial) (timed operations) p (omega (arith, many)) ∙ at_enqueue initial p
 
-  -- the place of a source
+  -- the place in the timeline of a source
   abbrev pub source_place : Source → ℕ
   source_place (source.Enq p) = behind k p
   source_place (source.Initial p) = p
 
-  -- what comes from a source stands there
+  -- the enqueue from a source is at its place in the timeline
   pub source_on : (s : Source) (o : Operation) → IsSource initial operations s o → IsAt all (source_place s) o
   source_on (source.Enq p) o at = operation_on p o at
   source_on (source.Initial p) o at =
@@ -301,7 +301,7 @@ module _ (initial : List ℕ) (operations : List Operation) where
     | inr there ↦ (there, is)
   ]
 
-  -- the same happens in both
+  -- the same happens in both courses
   pub course_on : Agree (course initial operations) (on all)
   course_on = record {
     there = record { enters = enters_on; did = λ o kind other did. (Contains-append_right (initial_enqueues initial) (timed operations) o did.0, did.1) };
@@ -311,7 +311,7 @@ module _ (initial : List ℕ) (operations : List Operation) where
   pub course_back : Agree (on all) (course initial operations)
   course_back = agree_back (course initial operations) (on all) course_on
 
-  -- a history without the first two kinds of violation
+  -- a history is clear if its timeline is
   pub clear_told : IsOfHistory initial operations → IsClear (on all) → IsClear (course initial operations)
   clear_told complete clear = record {
     complete = complete;
@@ -348,7 +348,7 @@ module _ (initial : List ℕ) (operations : List Operation) where
       ∙ ap₂ (λ (xs ys : List Life). xs ++ ys) (early_lives (ORIGIN - k) initial) (later_lives (timed operations))
 
 module _ (initial : List ℕ) (operations : List Operation) (few : length initial ≤ MAX_INITIAL) where
-  -- what isn't the enqueue of an initial value stands behind these
+  -- an operation other than the enqueue of an initial value is after these
   pub stands_behind : (p : ℕ) (o : Operation) → IsAt (timeline initial operations) p o
       → ((v : ℕ) → o.kind ≡ Enq v → o.call < ORIGIN → ⊥) → (length initial) ≤ p
   stands_behind p o at other = elim (timeline_at initial operations p o at) [
@@ -359,35 +359,35 @@ module _ (initial : List ℕ) (operations : List Operation) (few : length initia
     | inr late ↦ late.behind
   ]
 
-  -- the operation at a place of the timeline, where it stands behind the initial values
+  -- the operation at a place of the timeline after the initial values is one of the history
   operation_told : (p : ℕ) (o : Operation) → IsAt (timeline initial operations) p o → (length initial) ≤ p → IsOperation operations (told_place (length initial) p) o
   operation_told p o at after =
       sym (get_behind (initial_enqueues initial) (timed operations) (length initial) p (sym (length_enqueues (ORIGIN - (length initial)) initial)) after) ∙ at
 
-  -- an empty answer
+  -- an empty dequeue is at its translated place
   pub empty_told : (p : ℕ) (o : Operation) → IsAt (timeline initial operations) p o → o.kind ≡ Empty → IsOperation operations (told_place (length initial) p) o
   empty_told p o at is = operation_told p o at (stands_behind p o at (λ v enq early. let clash : Empty ≡ Enq v = sym is ∙ enq in cc))
 
-  -- a dequeue
+  -- a dequeue is at its translated place
   pub dequeue_told : (p : ℕ) (o : Operation) (v : ℕ) → IsAt (timeline initial operations) p o → o.kind ≡ Deq v
       → IsOperation operations (told_place (length initial) p) o
   dequeue_told p o v at is = operation_told p o at (stands_behind p o at (λ w enq early. let clash : Deq v ≡ Enq w = sym is ∙ enq in cc))
 
-  -- a dequeue, where there is one
+  -- an optional dequeue is at its translated place
   pub maybe_told : (p : Option ℕ) (o : Option Operation) → IsMaybeAt (timeline initial operations) p o → MatchOption o ⊤ (λ d. (v : ℕ) × (d.kind ≡ Deq v))
       → IsMaybeOperation operations (option_map (told_place (length initial)) p) o
   maybe_told None None at is = tt
   maybe_told (Some p) (Some o) at is = dequeue_told p o is.0 at is.1
   maybe_told _ _ at is = absurd at
 
-  -- the enqueue of a value
+  -- the enqueue of a value is at its translated source
   pub source_told : (p : ℕ) (o : Operation) → IsAt (timeline initial operations) p o → IsSource initial operations (told_source (length initial) p) o
   source_told p o at = elim (cases_Bool (nat_lt p (length initial))) [
     | inl is ↦ rw is (sym (early_at initial operations p (ltb-true p (length initial) is)) ∙ at)
     | inr is ↦ rw is (operation_told p o at (ltb-false p (length initial) is))
   ]
 
-  -- the operations of a value
+  -- the operations of a value have translated places
   value_told : (value : PlacedLife) → HasPlaces (timeline initial operations) value → IsLife (on (timeline initial operations)) value.life
       → IsNamed initial operations (told_source (length initial) value.enqueue) (option_map (told_place (length initial)) value.dequeue) value.life
   value_told value at is = (
@@ -395,7 +395,7 @@ module _ (initial : List ℕ) (operations : List Operation) (few : length initia
     maybe_told value.dequeue (dequeue_of value.life) at.1 (dequeues (timeline initial operations) is.0 (dequeue_of value.life) is.2),
   )
 
-  -- the enqueue that the dequeue returned before, or that was refused, is none of an initial value
+  -- an enqueue that failed, or that the dequeue returned before, is not that of an initial value
   pub call_told : (deq : ℕ) (d : Operation) (enq : Option ℕ) (e : Option Operation) → IsAt (timeline initial operations) deq d
       → IsMaybeAt (timeline initial operations) enq e
       → IsFreshViolation (on (timeline initial operations)) d e
@@ -416,7 +416,7 @@ module _ (initial : List ℕ) (operations : List Operation) (few : length initia
       ]
   call_told _ _ _ _ _ at_e _ = absurd at_e
 
-  -- the chosen dequeue of a value that was not there
+  -- the chosen phantom dequeue, at its translated places
   pub fresh_told : (found : FreshPlaces) → AreChosenFresh (timeline initial operations) found
       → NamesChosenFresh initial operations (violation.Fresh (told_place (length initial) found.deq) (option_map (told_place (length initial)) found.enq))
   fresh_told found (deq, enq, at_deq, at_enq, chosen) = (
@@ -430,7 +430,7 @@ module _ (initial : List ℕ) (operations : List Operation) (few : length initia
     chosen_of (on (timeline initial operations)) (course initial operations) (course_back initial operations) (fresh deq enq) chosen,
   )
 
-  -- the chosen value that is dequeued twice
+  -- the chosen value that is dequeued twice, at its translated places
   pub repeat_told : (found : RepeatPlaces) → AreChosenRepeat (timeline initial operations) found
       → NamesChosenRepeat initial operations
       (violation.Repeat (told_source (length initial) found.enq) (told_place (length initial) found.first) (told_place (length initial) found.second))
@@ -470,7 +470,7 @@ module _ (initial : List ℕ) (operations : List Operation) (few : length initia
 
   -- ---- lists of places
 
-  -- what stands at places of the timeline, and was called at a ticket of the history, stands at the places told
+  -- operations of the history, found in the timeline, are at their translated places
   places_told : (places : List ℕ) (listed : List Operation) → ArePlacesOf (timeline initial operations) places (map (later_by ORIGIN) listed)
       → ArePlacesOf operations (map (told_place (length initial)) places) listed
   places_told [] [] at = refl
@@ -487,7 +487,7 @@ module _ (initial : List ℕ) (operations : List Operation) (few : length initia
       ap₂ (λ (x : Option Operation) (xs : List (Option Operation)). x ∷ xs) here (places_told places listed later)
   places_told _ _ at = absurd (cc)
 
-  -- an operation that no enqueue is, by a test, is one of the history, later
+  -- operations of the timeline that pass a test, which no enqueue passes, are those of the history
   filter_timeline : (test : Operation → Bool) → ((o : Operation) (v : ℕ) → o.kind ≡ Enq v → test o ≡ false)
       → ((o : Operation) → test (later_by ORIGIN o) ≡ test o)
       → filter test (timeline initial operations) ≡ map (later_by ORIGIN) (filter test operations)
@@ -500,19 +500,19 @@ module _ (initial : List ℕ) (operations : List Operation) (few : length initia
       no_enqueue time [] = refl
       no_enqueue time (v ∷ values) = rw (none (enqueue_at time v) v refl) (no_enqueue (time + 1) values)
 
-  -- the places of the empty answers and of the refused enqueues
+  -- the translated places of the empty dequeues
   pub empties_told : (places : List ℕ) → HoldsPlaces (timeline initial operations) is_empty_answer places
       → HoldsPlaces operations is_empty_answer (map (told_place (length initial)) places)
   empties_told places holds = places_told places (filter is_empty_answer operations)
       (subst (ArePlacesOf (timeline initial operations) places) (filter_timeline is_empty_answer (λ o v is. rw is refl) (λ o. refl)) holds)
 
-  -- the places of failed enqueues are the history's
+  -- the translated places of the failed enqueues
   pub refused_told : (places : List ℕ) → HoldsPlaces (timeline initial operations) is_refused places
       → HoldsPlaces operations is_refused (map (told_place (length initial)) places)
   refused_told places holds = places_told places (filter is_refused operations)
       (subst (ArePlacesOf (timeline initial operations) places) (filter_timeline is_refused (λ o v is. rw is refl) (λ o. refl)) holds)
 
--- ---- a history's course is complete where its timeline is, and has the timeline's lives
+-- ---- a history is complete if and only if its timeline is, and has the timeline's lives
 
 -- the timeline of a history is complete
 pub timeline_of_history : (initial : List ℕ) (operations : List Operation) → IsOfHistory initial operations
@@ -525,7 +525,7 @@ module _ (initial : List ℕ) (operations : List Operation) (clear : IsClear (co
   pub clear_course : Agree (course initial operations) (on (timeline initial operations))
   clear_course = course_on initial operations
 
-  -- which has neither of the first two kinds of violation
+  -- the timeline has neither of the first two kinds of violation
   pub clear_on : IsClear (on (timeline initial operations))
   clear_on = record {
     complete = (timeline_of_history initial operations clear.complete).1;
@@ -537,7 +537,7 @@ module _ (initial : List ℕ) (operations : List Operation) (clear : IsClear (co
   pub clear_life : (life : Life) → IsLife (course initial operations) life → IsLife (on (timeline initial operations)) life
   clear_life = life_of (course initial operations) (on (timeline initial operations)) clear_course
 
-  -- the lives that are listed are those that there are
+  -- the listed lives are the lives of the history
   pub lists_its_lives : ListsItsLives (course initial operations)
   lists_its_lives life = (
     λ is. subst (λ lives. Contains lives life) (same_lives initial operations)
@@ -552,7 +552,7 @@ module _ (initial : List ℕ) (operations : List Operation) (clear : IsClear (co
     value_lives value among =
         (lists_its_lives value.life).1 (subst (λ lives. Contains lives value.life) holds.lives (mapped_to (λ m. m.life) values value among))
 
-    -- and each life is that of a value
+    -- each life is that of a value
     pub life_value : (life : Life) → IsLife (course initial operations) life → (value : MatchedValue) × Contains values value × (value.life ≡ life)
     life_value life is =
         mapped_from (λ m. m.life) values life (subst (λ lives. Contains lives life) (sym holds.lives) ((lists_its_lives life).0 is))

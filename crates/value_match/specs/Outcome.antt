@@ -1,4 +1,4 @@
--- What a violation names, and what matching answers.
+-- What a violation names, and the results of matching.
 use Rattle.std.specs.Prelude.{◌≡◌, ℕ, All, List, Option, Some, length, map, option_map, slice_get}
 use Rattle.std.specs.List.{AllZip}
 use Rattle.history_merge.specs.declared.operation.Operation.{Operation}
@@ -22,16 +22,16 @@ use Rattle.value_match.specs.Times.{initial_enqueue}
 abbrev pub IsOperation : List Operation → ℕ → Operation → Type 0
 IsOperation operations place o = IsAt (timed operations) place o
 
--- the same where there is a place
+-- the optional operation at this optional place, at its times
 abbrev pub IsMaybeOperation : List Operation → Option ℕ → Option Operation → Type 0
 IsMaybeOperation operations place o = IsMaybeAt (timed operations) place o
 
--- the enqueue of the value from this source: an operation, or that of the initial value at this place
+-- the enqueue of the value from this source: an operation, or that of an initial value
 abbrev pub IsSource : List ℕ → List Operation → Source → Operation → Type 0
 IsSource initial operations (Enq place) enqueue = IsOperation operations place enqueue
 IsSource initial operations (Initial place) enqueue = option_map (initial_enqueue (length initial) place) (slice_get initial place) ≡ Some enqueue
 
--- the life is that of the value from this source, with its dequeue at this place, if there is one
+-- the life of the value from this source, with its dequeue at this place, if there is one
 abbrev pub IsNamed : List ℕ → List Operation → Source → Option ℕ → Life → Type 0
 IsNamed initial operations source dequeue life =
     IsSource initial operations source (enqueue_of life) × IsMaybeOperation operations dequeue (dequeue_of life)
@@ -41,7 +41,7 @@ pub record HoldsValues (history : Contents) (values : List MatchedValue) : Type 
   pub lives : map (λ m. m.life) values ≡ (course_of history).lives
   pub named : All (λ m. IsNamed history.initial history.operations m.source m.dequeue m.life) values
 
--- the steps name these lives, one by one
+-- the steps of a cover name these lives, one by one
 abbrev pub NamesCover : List ℕ → List Operation → List CoverStep → List Life → Type 0
 NamesCover initial operations steps cover = AllZip (λ step life. IsNamed initial operations step.source step.dequeue life) steps cover
 
@@ -60,19 +60,20 @@ abbrev pub IsChosenViolation : List ℕ → List Operation → Violation → Typ
 IsChosenViolation initial operations violation =
     (full : FullViolation) × Names initial operations violation full × IsChosenFullViolation (course initial operations) full
 
--- the violation names the chosen dequeue of a value that was not there
+-- the violation names the chosen phantom dequeue
 abbrev pub NamesChosenFresh : List ℕ → List Operation → Violation → Type 0
 NamesChosenFresh initial operations violation =
     (deq : Operation) × (enq : Option Operation) × Names initial operations violation (fresh deq enq)
     × IsChosenFullViolation (course initial operations) (fresh deq enq)
 
--- the violation names the chosen two dequeues of one value, and no dequeue is of a value that was not there
+-- the violation names the chosen two dequeues of one value, and there is no phantom dequeue
 abbrev pub NamesChosenRepeat : List ℕ → List Operation → Violation → Type 0
 NamesChosenRepeat initial operations violation =
     (enq : Operation) × (first : Operation) × (second : Operation) × Names initial operations violation (repeat enq first second)
     × IsChosenFullViolation (course initial operations) (repeat enq first second)
 
--- a matching of the history where the first two kinds of violation are absent, else the chosen violation of the first of them
+-- a matching of the history if the first two kinds of violation are absent, else the chosen violation of the first
+-- kind present
 abbrev pub IsMatched : List ℕ → List Operation → Matched → Type 0
 IsMatched initial operations (matched.Clear matching) =
     (matching ≡ record { initial = initial; operations = operations }) × IsClear (course initial operations)

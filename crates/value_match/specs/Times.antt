@@ -1,4 +1,4 @@
--- Times on the one scale: a ticket, and the gap after it, has the same time in every history.
+-- The scale of times: a ticket, and the gap after it, has the same time in every history.
 use Rattle.std.specs.Prelude.{pos, ℕ, ℤ, ◌+◌, ◌-ℤ◌, ◌-◌}
 use Rattle.event_records.specs.declared.limits.TheConstants.{ORIGIN}
 use Rattle.history_merge.specs.declared.operation.Operation.{Operation}
@@ -8,7 +8,7 @@ use Rattle.history_merge.specs.Initial.{enqueue_at}
 abbrev pub initial_time : ℕ → ℕ → ℕ
 initial_time initial_count j = ORIGIN - initial_count + j
 
--- the enqueue by which the initial value v at place j, of this many, comes in
+-- the enqueue of the initial value v at place j, of this many
 abbrev pub initial_enqueue : ℕ → ℕ → ℕ → Operation
 initial_enqueue initial_count j v = enqueue_at (initial_time initial_count j) v
 
@@ -16,6 +16,6 @@ initial_enqueue initial_count j v = enqueue_at (initial_time initial_count j) v
 abbrev pub time_of : ℕ → ℕ
 time_of ticket = ticket + ORIGIN
 
--- the ticket of a time: the enqueue of the j-th of k initial values has the ticket j - k, at its call and at its return
+-- the ticket of a time; the enqueue of the j-th of k initial values has the ticket j - k for its call and its return
 abbrev pub ticket_of : ℕ → ℤ
 ticket_of time = pos time -ℤ pos ORIGIN

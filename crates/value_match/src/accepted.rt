@@ -7,16 +7,16 @@ use crate::told::{told_maybe, told_source};
 use history_merge::{OpId, Operation, PackedOperation};
 use std::marker::Model;
 
-/// The places of a successful enqueue and of the dequeue of its value, if there is one.
+/// The places of a successful enqueue and of its value's dequeue, if there is one.
 #[derive(Clone, Copy)]
 pub(crate) struct Pair {
     pub(crate) enqueue: u32,
     pub(crate) dequeue: MaybePlace,
 }
 
-/// Accepted values, seen as the list of them.
+/// The successfully enqueued values, seen as the list of them.
 ///
-/// It borrows the history's operations, and a word for each value.
+/// Borrows the history's operations, and a word for each value.
 #[derive(Drop)]
 pub struct Values<'a> {
     initial_count: usize,
@@ -37,7 +37,8 @@ impl<'a> Model for Values<'a> {
 }
 
 impl<'a> Values<'a> {
-    /// Makes the values whose operations stand at these places of a timeline, on which this many initial values come first.
+    /// Makes the values whose operations have these places in a timeline that begins with `initial_count` initial
+    /// values.
     pub(crate) fn new(
         initial_count: usize,
         timeline: &'a [PackedOperation],
@@ -53,7 +54,7 @@ impl<'a> Values<'a> {
         }
     }
 
-    /// How many there are.
+    /// Returns the number of values.
     #[inline(always)]
     pub fn len(&self) -> usize
         ensures { result ≡ length self.now }
@@ -61,7 +62,7 @@ impl<'a> Values<'a> {
         self.pairs.len()
     }
 
-    /// The value at this place of the list.
+    /// Returns the value at index `place`.
     #[inline(always)]
     pub fn get(&self, place: usize) -> MatchedValue
         requires { place < length self.now }
@@ -74,7 +75,7 @@ impl<'a> Values<'a> {
         value_of(self.initial_count, self.timeline, pairs[place])
     }
 
-    /// The values before this place, and the others.
+    /// Returns the values before `place`, and the others.
     pub fn split_at(&self, place: usize) -> (Values<'a>, Values<'a>)
         requires { place ≤ length self.now }
         ensures before { result.0 ≡ take place self.now }
@@ -92,7 +93,7 @@ impl<'a> Values<'a> {
     }
 }
 
-/// The value whose operations stand at these places of a timeline.
+/// Returns the value whose operations have these places in a timeline.
 #[inline(always)]
 fn value_of(initial_count: usize, timeline: &[PackedOperation], pair: Pair) -> MatchedValue
     requires enqueue { pair.enqueue < length timeline.now }

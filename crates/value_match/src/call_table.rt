@@ -7,38 +7,41 @@ use event_records::NAMES_OF_A_THREAD;
 use history_merge::{OpKind, PackedOperation};
 use std::alloc::{AllocError, Global};
 
-/// How many operations are noted ahead of the one that is matched: a dequeue may be called before its value.
+/// The number of operations noted ahead of the one that is matched, since a dequeue may be called before the enqueue
+/// of its value.
 const AHEAD: usize = 1024;
 
-/// How many slots values have at most, unless there are many initial values.
+/// The maximum number of slots, unless there are many initial values.
 const MOST_SLOTS: usize = 1 << 17;
 
-/// How many slots values have at most for each initial value. Between the call for a value and its dequeue, about as many others
-/// are called as the queue holds first.
+/// The maximum number of slots for each initial value. Between the calls of a value's enqueue and its dequeue, about
+/// as many others are called as the queue holds initial values.
 const SLOTS_OF_AN_INITIAL_VALUE: usize = 4;
 
-/// How many slots lie between those of values with the same lower half whose upper halves follow one another: the golden section
-/// of 2^19 slots, the most that 100,000 initial values want, so that the values of few threads lie apart.
+/// The distance between the slots of values with the same lower half and consecutive upper halves. It is the golden
+/// section of 2^19 slots, the most that 100,000 initial values ask for, so that the values of few threads lie apart.
 const APART: u64 = 324_028;
 
-/// The places of the accepted calls to enqueue that came last, each in the slot of its value. A recorder puts the thread into the
-/// upper half of a value's bits and counts in the lower one, so values that are called at about the same time have slots of
-/// their own.
+/// The places of the latest successful enqueues, each in the slot of its value. A recorder puts the thread into the
+/// upper half of a value's bits and counts in the lower half, so values that are enqueued at about the same time have
+/// slots of their own.
 ///
-/// Nothing rests on this table: `find` gives only a place at which the value was called.
+/// No result depends on this table: `find` only proposes a place, at which it has seen the value's enqueue called.
 #[derive(Drop)]
 pub(crate) struct CallTable {
-    /// In each slot one above the place of the call that came last there, or 0. The last slot is of no value.
+    /// One plus the place of the latest enqueue in each slot, or 0. The last slot belongs to no value.
     above: Vec<u32>,
-    /// The bits of a value's slot.
+    /// The mask that takes a value's slot from its bits.
     mask: usize,
     noted: u32,
 }
 
 impl CallTable {
-    /// The calls of these operations, of which the first are noted. The count is that of the initial values.
+    /// Makes the table of these operations, of which the first are noted. `initial_count` is the number of initial
+    /// values.
     ///
-    /// It takes up to a word for each operation: up to half a MiB, or up to four words for each initial value.
+    /// Takes up to a word for each operation, but at most half a MiB, or four words for each initial value if that is
+    /// more.
     pub(crate) fn new(
         alloc: Global,
         operations: &[PackedOperation],
@@ -68,7 +71,7 @@ impl CallTable {
             return;
         };
         self.noted = self.noted.wrapping_add(1);
-        // What isn't such a call is written too, without a branch, into the slot of no value.
+        // Any other operation is written too, into the slot that belongs to no value: this needs no branch.
         let is_call = matches!(operation.unpack().kind, OpKind::Enq(_));
         let slot = self.slot_of(operation.value());
         let slot = if is_call {
@@ -81,7 +84,7 @@ impl CallTable {
         }
     }
 
-    /// Returns the place of the call for this value, if it is the one that came last in its slot.
+    /// Returns the place of the call to enqueue this value, if it is the latest in its slot.
     #[inline(always)]
     pub(crate) fn find(&self, operations: &[PackedOperation], value: u64) -> Option<usize>
         ensures { IfSome result (λ place. IsCallPlace operations.now value (Some place)) }
@@ -91,7 +94,7 @@ impl CallTable {
         is_called_at(operations, value, place).then_some(place)
     }
 
-    /// The slot of a value.
+    /// Returns the slot of a value.
     #[inline(always)]
     fn slot_of(&self, value: u64) -> usize {
         let upper = value / NAMES_OF_A_THREAD;

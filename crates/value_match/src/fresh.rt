@@ -13,15 +13,15 @@ use crate::maybe_place::MaybePlace;
 use crate::takers::return_at;
 use history_merge::{OpId, OpKind, Operation, PackedOperation};
 
-/// The places of a dequeue of a value that was not there, and of the call for this value if there is one.
+/// The places of a phantom dequeue and of the call to enqueue its value, if there is one.
 #[derive(Clone, Copy)]
 pub(crate) struct FreshPlaces {
     pub(crate) deq: OpId,
     pub(crate) enq: Option<OpId>,
 }
 
-/// The dequeue that returns first, of those of a value that was not there, if there is one, by the sources of the operations
-/// behind the settled ones.
+/// Returns the phantom dequeue that returns first, if there is one. `sources` are those of the operations after the
+/// matched prefix, of which none is a phantom dequeue.
 pub(crate) fn first_fresh(
     operations: &[PackedOperation],
     settled: usize,
@@ -48,7 +48,8 @@ pub(crate) fn first_fresh(
     first
 }
 
-/// Whether the operation at this place, which has this source, is a dequeue of a value that was not there.
+/// Returns whether the operation at `place`, which has this source, is a phantom dequeue: one of a value that was not
+/// in the queue.
 fn is_fresh(operations: &[PackedOperation], place: usize, source: MaybePlace) -> bool
     requires place { place < length operations.now }
     requires source { (o : Operation) → IsAt operations.now place o → IsSourceOf operations.now o.kind source }
@@ -64,7 +65,7 @@ fn is_fresh(operations: &[PackedOperation], place: usize, source: MaybePlace) ->
     comes_too_soon(operations, operation, source)
 }
 
-/// Whether the dequeue returned before the call at this place, or that was refused.
+/// Returns whether the call at `source` failed, or came only after the dequeue had returned.
 #[inline(always)]
 pub(crate) fn comes_too_soon(operations: &[PackedOperation], deq: Operation, source: usize) -> bool
     requires { source < length operations.now }
@@ -74,7 +75,7 @@ pub(crate) fn comes_too_soon(operations: &[PackedOperation], deq: Operation, sou
     matches!(call.kind, OpKind::Not(_)) || deq.ret < call.call
 }
 
-/// What was found first, if anything was, or the other, whichever dequeue returns first.
+/// Returns whichever of the two has the dequeue that returns first: `other`, if there is no `first`.
 fn sooner(
     operations: &[PackedOperation],
     first: Option<FreshPlaces>,

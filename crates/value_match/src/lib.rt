@@ -1,4 +1,4 @@
-//! Enqueues matched with dequeues by their values, and the violations that this shows.
+//! Enqueues matched with dequeues by value, and the violations that this finds.
 #![tactic(auto)]
 
 mod accepted;

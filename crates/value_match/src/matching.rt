@@ -15,10 +15,11 @@ use event_records::{MAX_EVENTS, MAX_INITIAL};
 use history_merge::{History, OpId, Operations, PackedOperation};
 use std::marker::Model;
 
-/// The most operations that are matched: those of a history, and the enqueues of its initial values.
+/// The maximum number of operations that are matched: those of a history, and the enqueues of its initial values.
 pub const MAX_MATCHED: usize = MAX_EVENTS + MAX_INITIAL;
 
-/// Operations sorted out: the accepted values with their dequeues, the empty answers and the refused enqueues.
+/// Operations by kind: the successfully enqueued values with their dequeues, the empty dequeues and the failed
+/// enqueues.
 #[derive(Drop)]
 pub(crate) struct SortedOut {
     pub(crate) values: Vec<Pair>,
@@ -26,13 +27,13 @@ pub(crate) struct SortedOut {
     pub(crate) refused: Vec<OpId>,
 }
 
-/// A complete history in which no dequeue is of a value that was not there, and no value is dequeued twice; seen as its initial
-/// values and its operations.
+/// A complete history without phantom dequeues, in which no value is dequeued twice. Contracts see its initial values
+/// and its operations.
 ///
-/// A life speaks of times: what has ticket c has the time `ORIGIN + c`, and the j-th of k initial values comes in at the time
-/// `ORIGIN + j - k`.
+/// A life is on the scale of times: ticket c has the time `ORIGIN + c`, and the j-th of k initial values is enqueued
+/// at the time `ORIGIN + j - k`.
 ///
-/// It borrows the history, and holds a word for each accepted value.
+/// Borrows the history, and holds a word for each successfully enqueued value.
 #[derive(Drop)]
 pub struct Matching<'a> {
     history: &'a History,
@@ -53,7 +54,7 @@ impl<'a> Model for Matching<'a> {
 }
 
 impl<'a> Matching<'a> {
-    /// The matching of this history.
+    /// Makes the matching of this history.
     pub(crate) fn new(history: &'a History, sorted: SortedOut) -> Matching<'a>
         requires { IsSortedOutOf (timeline history.now.initial (operations_of history.now.events)) sorted }
         ensures { result ≡ record { initial = history.now.initial; operations = operations_of history.now.events } }
@@ -61,16 +62,17 @@ impl<'a> Matching<'a> {
         Matching { history, sorted }
     }
 
-    /// What the queue held first, front first.
+    /// Returns the initial values, front first.
     pub fn initial(&self) -> &[u64]
         ensures initial { result.now ≡ self.now.initial }
         ensures clear { IsClear (course_of self.now) }
     {
+        // Reads a field, so that the proof knows the invariant, from which `clear` follows.
         let _sorted = &self.sorted;
         self.history.initial()
     }
 
-    /// The operations, in the order of their calls.
+    /// Returns the operations, in the order of their calls.
     pub fn operations(&self) -> Operations<'_>
         ensures operations { result ≡ self.now.operations }
         ensures clear { IsClear (course_of self.now) }
@@ -79,21 +81,22 @@ impl<'a> Matching<'a> {
         self.history.operations()
     }
 
-    /// The dequeues that answered empty, in the order of their calls.
+    /// Returns the empty dequeues, in the order of their calls.
     pub fn empties(&self) -> Places<'_>
         ensures { HoldsPlaces self.now.operations is_empty_answer result }
     {
         Places::new(self.history.initial().len(), self.sorted.empties.as_slice())
     }
 
-    /// The enqueues that were refused, in the order of their calls.
+    /// Returns the failed enqueues, in the order of their calls.
     pub fn refused(&self) -> Places<'_>
         ensures { HoldsPlaces self.now.operations is_refused result }
     {
         Places::new(self.history.initial().len(), self.sorted.refused.as_slice())
     }
 
-    /// The accepted values: the initial values, front first, and then the others in the order of their enqueues' calls.
+    /// Returns the successfully enqueued values: the initial values, front first, and then the others in the order of
+    /// their enqueues' calls.
     pub fn values(&self) -> Values<'_>
         ensures values { HoldsValues self.now result }
         ensures clear { IsClear (course_of self.now) }
@@ -107,12 +110,12 @@ impl<'a> Matching<'a> {
     }
 }
 
-/// What matching finds: that there is a matching, or the violation that rules it out, by the history's places.
+/// The result of matching: a matching, or the violation that rules it out, by the history's places.
 #[derive(Drop)]
 pub enum Matched<'a> {
-    /// Each dequeue is of an accepted value that was there, and no two are of one value.
+    /// Each dequeue is of a value that was in the queue, and no value is dequeued twice.
     Clear(Matching<'a>),
-    /// A dequeue of a value that was not there, as `Violation::Fresh`.
+    /// A phantom dequeue, as `Violation::Fresh`.
     Fresh(Violation),
     /// Two dequeues of one value, as `Violation::Repeat`.
     Repeat(Violation),

@@ -3,10 +3,10 @@ ghost use Rattle.std.specs.Prelude.{◌≡◌, ◌<◌, ◌+◌, ◌^◌, Some, 
 use history_merge::OpId;
 use std::marker::Model;
 
-/// A place, or none, in half a word; seen as an `Option` of the place.
+/// An optional place in half a word, seen as an `Option` of the place.
 #[derive(Clone, Copy)]
 pub(crate) struct MaybePlace {
-    /// One above the place, or 0 for none.
+    /// One plus the place, or 0 for none.
     above: u32,
 }
 
@@ -25,7 +25,7 @@ impl Model for MaybePlace {
 }
 
 impl MaybePlace {
-    /// No place.
+    /// Returns no place.
     #[inline(always)]
     pub(crate) fn none() -> MaybePlace
         ensures { result ≡ None }
@@ -33,7 +33,7 @@ impl MaybePlace {
         MaybePlace { above: 0 }
     }
 
-    /// This place.
+    /// Wraps a place.
     #[inline(always)]
     pub(crate) fn some(place: usize) -> MaybePlace
         requires { place + 1 < 2 ^ 32 }
@@ -44,7 +44,7 @@ impl MaybePlace {
         }
     }
 
-    /// The place, if there is one.
+    /// Returns the place, if there is one.
     #[inline(always)]
     pub(crate) fn get(self) -> Option<usize>
         ensures { result ≡ self }
@@ -52,7 +52,7 @@ impl MaybePlace {
         (self.above as usize).checked_sub(1)
     }
 
-    /// The operation at the place, if there is one.
+    /// Returns the place as that of an operation, if there is one.
     #[inline(always)]
     pub(crate) fn id(self) -> Option<OpId>
         ensures { result ≡ self }

@@ -10,14 +10,14 @@ use history_merge::PackedOperation;
 use std::alloc::{AllocError, Global};
 use std::collections::BTreeSet;
 
-/// A value that was called to be enqueued, with the place of the call.
+/// A call to enqueue a value, and its place.
 #[derive(Clone, Copy)]
 pub(crate) struct Call {
     pub(crate) value: u64,
     pub(crate) place: usize,
 }
 
-/// Whether the operation at the place, if there is one, called to enqueue the value.
+/// Returns whether the operation at `place` exists and called to enqueue the value.
 #[inline(always)]
 pub(crate) fn is_called_at(operations: &[PackedOperation], value: u64, place: usize) -> bool
     ensures { IsTrue result ↔ IsCallPlace operations.now value (Some place) }
@@ -28,7 +28,7 @@ pub(crate) fn is_called_at(operations: &[PackedOperation], value: u64, place: us
     }
 }
 
-/// The calls to enqueue the values that are wanted, by value.
+/// Returns the calls to enqueue the wanted values, sorted by value.
 pub(crate) fn others_of(
     alloc: Global,
     operations: &[PackedOperation],
@@ -47,14 +47,14 @@ pub(crate) fn others_of(
     Ok(others)
 }
 
-/// The least and the greatest of some values, or of all numbers.
+/// The range of some values; all numbers if there are none.
 #[derive(Clone, Copy)]
 struct Bounds {
     least: u64,
     greatest: u64,
 }
 
-/// The bounds of the values that are wanted.
+/// Returns the range of the wanted values.
 fn bounds_of(wanted: &BTreeSet<u64>) -> Bounds
     ensures { AreBounds wanted.now result }
 {
@@ -64,8 +64,8 @@ fn bounds_of(wanted: &BTreeSet<u64>) -> Bounds
     }
 }
 
-/// The value that the operation called to enqueue, if it is wanted. Few are, and most others are out of bounds, so that they need
-/// neither a look at what was called nor a look-up.
+/// Returns the value that the operation called to enqueue, if it is wanted. Few values are, and most others are out
+/// of range, so comparing saves unpacking the operation and looking its value up.
 #[inline(always)]
 fn wanted_call(wanted: &BTreeSet<u64>, bounds: Bounds, operation: &PackedOperation) -> Option<u64>
     requires { AreBounds wanted.now bounds }
@@ -79,7 +79,7 @@ fn wanted_call(wanted: &BTreeSet<u64>, bounds: Bounds, operation: &PackedOperati
     wanted.contains(&called).then_some(called)
 }
 
-/// The place of a call of this value among calls by value, if there is one.
+/// Returns the place of a call to enqueue this value among calls sorted by value, if there is one.
 pub(crate) fn place_among(calls: &[Call], value: u64) -> Option<usize>
     requires { IsNonDecreasingBy (λ call. call.value) calls.now }
     ensures { MatchOption result (NoneOf calls.now value) (λ place. Contains calls.now (record { value = value; place = place })) }

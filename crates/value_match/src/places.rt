@@ -7,7 +7,7 @@ use std::marker::Model;
 
 /// Places of operations of a history, seen as the list of them.
 ///
-/// It borrows a list of the history's matching.
+/// Borrows a list of the history's matching.
 #[derive(Drop)]
 pub struct Places<'a> {
     initial_count: usize,
@@ -24,7 +24,7 @@ impl<'a> Model for Places<'a> {
 }
 
 impl<'a> Places<'a> {
-    /// Makes the places after this many initial values.
+    /// Makes places from those of a timeline that begins with `initial_count` initial values.
     pub(crate) fn new(initial_count: usize, timeline: &'a [OpId]) -> Places<'a>
         ensures { result ≡ map (told_place initial_count) timeline.now }
     {
@@ -34,7 +34,7 @@ impl<'a> Places<'a> {
         }
     }
 
-    /// How many there are.
+    /// Returns the number of places.
     #[inline(always)]
     pub fn len(&self) -> usize
         ensures { result ≡ length self.now }
@@ -42,7 +42,7 @@ impl<'a> Places<'a> {
         self.timeline.len()
     }
 
-    /// The one at this place of the list.
+    /// Returns the place at index `place` of the list.
     #[inline(always)]
     pub fn get(&self, place: usize) -> OpId
         requires { place < length self.now }
@@ -51,7 +51,7 @@ impl<'a> Places<'a> {
         told_place(self.initial_count, self.timeline[place])
     }
 
-    /// Those before this place of the list, and the others.
+    /// Returns the places before index `place` of the list, and the others.
     pub fn split_at(&self, place: usize) -> (Places<'a>, Places<'a>)
         requires { place ≤ length self.now }
         ensures before { result.0 ≡ take place self.now }

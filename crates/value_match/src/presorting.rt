@@ -1,12 +1,14 @@
 ghost use Rattle.std.specs.Prelude.{◌<◌, IsPermutation, length};
 
-/// How far an element is moved at most.
+/// The maximum number of places that an element is moved, so that presorting takes O(n) time.
 const MOST_MOVES: usize = 32;
 
-/// Moves each element towards the front, past the elements before it whose numbers are greater, by a few places at most.
+/// Moves each element towards the front, past the elements before it with greater numbers, but by a few places at
+/// most.
 ///
-/// A list in which each element stands near its place comes out sorted, and a sort that finds it so is one pass. Of any other
-/// list the answer is another order: it stops at the first element that moves as far as it may. Time O(n).
+/// A list in which each element is near its sorted place comes out sorted, and a sort of it is one pass. Any other
+/// list comes out in some other order, since the work stops at the first element that is moved as far as allowed.
+/// Takes O(n) time.
 pub fn presort<T: Copy, F: Fn(&T) -> u64>(elements: &mut Vec<T>, number: &F)
     requires { F.IsAlwaysCallable number.now }
     ensures { IsPermutation elements.old.items elements.new.items }
@@ -28,7 +30,7 @@ fn presort_slice<T: Copy, F: Fn(&T) -> u64>(elements: &mut [T], number: &F)
     }
 }
 
-/// Moves the element at this place towards the front. Returns false if it moved as far as it may.
+/// Moves one element towards the front. Returns false if it was moved as far as allowed.
 #[inline(always)]
 fn presort_one<T: Copy, F: Fn(&T) -> u64>(elements: &mut [T], number: &F, place: usize) -> bool
     requires place { place < length elements.old }

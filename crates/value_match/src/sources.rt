@@ -12,21 +12,22 @@ use history_merge::{OpKind, PackedOperation};
 use std::alloc::{AllocError, Global};
 use std::collections::BTreeSet;
 
-/// How far from the call that was found last the call for the next value is looked for at most.
+/// The maximum distance from the previous match that is searched.
 const REACH: usize = 64;
 
-/// For each dequeue the place of the call that enqueued its value, accepted or refused, if there is one.
+/// For each dequeue the place of the call that enqueued its value, successful or failed, if there is one.
 #[derive(Drop)]
 pub(crate) struct Sources {
-    /// How many operations at the front are settled: each dequeue of them is of a value that was there, and no two are of one value.
+    /// The length of the matched prefix: each dequeue in it is of a value that was in the queue, and no two are of
+    /// one value.
     pub(crate) settled: usize,
-    /// At each call the settled operation that takes its value, if there is one.
+    /// At each call the dequeue of the prefix that takes its value, if there is one.
     pub(crate) takers: Vec<MaybePlace>,
-    /// The sources of the other operations, one by one.
+    /// The sources of the operations after the prefix, one by one.
     pub(crate) places: Vec<MaybePlace>,
 }
 
-/// Sources of the operations behind the settled ones, of which some may not be found yet.
+/// The sources of the operations after the matched prefix. Some may not be found yet.
 #[derive(Drop)]
 struct NearSources {
     sources: Vec<MaybePlace>,
@@ -34,10 +35,12 @@ struct NearSources {
     wanted: BTreeSet<u64>,
 }
 
-/// The sources of all dequeues. The count is that of the initial values, for room alone.
+/// Returns the sources of all dequeues. `initial_count` is the number of initial values and decides the capacity
+/// alone.
 ///
-/// Time O(n) for n operations if the values leave nearly in the order of their calls or, with recorder's names, soon after these.
-/// Else the calls of the other values are sorted by value, and each of their dequeues costs a look-up, O(n log n).
+/// Takes O(n) time for n operations if the values leave nearly in the order of their calls or, with a recorder's
+/// names, soon after these. Otherwise the calls of the other values are sorted by value, and each of their dequeues
+/// costs a look-up, O(n log n).
 pub(crate) fn sources_of(
     alloc: Global,
     operations: &[PackedOperation],
@@ -47,8 +50,8 @@ pub(crate) fn sources_of(
     requires few { length operations.now ≤ MAX_MATCHED }
     ensures { IfOk result (AreSources operations.now) }
 {
-    // What lies behind the takers is given back before they are. So their room, twice as much as they need, can be that of the
-    // next list, with a word for each value.
+    // The lists allocated after the takers are freed before they are. So their buffer, twice as large as they need,
+    // can be reused for the next list, which has a word for each value.
     let mut takers = Vec::with_capacity(alloc, 2 * operations.len())?;
     takers.resize(operations.len(), MaybePlace::none())?;
     let mut guess = Guess {
@@ -70,7 +73,7 @@ pub(crate) fn sources_of(
     })
 }
 
-/// How many operations at the front are settled; at the call for each of their values it notes what takes it.
+/// Returns the length of the matched prefix. Notes at the call to enqueue each of its values which dequeue takes it.
 fn settle(operations: &[PackedOperation], guess: &mut Guess, takers: &mut [MaybePlace]) -> usize
     requires complete { AreComplete operations.now }
     requires few { length operations.now ≤ MAX_MATCHED }
@@ -96,7 +99,7 @@ fn settle(operations: &[PackedOperation], guess: &mut Guess, takers: &mut [Maybe
     operations.len()
 }
 
-/// The sources of the operations behind the settled ones that are each near by the guess.
+/// Returns the sources of the operations after the prefix that are near by the guess.
 fn near_sources(
     alloc: Global,
     operations: &[PackedOperation],
@@ -125,8 +128,8 @@ fn near_sources(
     Ok(NearSources { sources, wanted })
 }
 
-/// Where the call for the next value is looked for: in the table, or near the one found last, half as far from there after each
-/// miss.
+/// A guess at the call for the next value: in the table, or near the previous match. Each miss halves the distance
+/// that is searched.
 #[derive(Drop)]
 struct Guess {
     calls: CallTable,
@@ -155,7 +158,7 @@ impl Guess {
     }
 }
 
-/// The place of the call for this value, where it is so near this place.
+/// Returns the place of the call for this value, if it is within `reach` of `from`.
 #[inline(always)]
 fn near_place(
     operations: &[PackedOperation],

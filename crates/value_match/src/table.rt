@@ -10,17 +10,17 @@ use crate::presorting::presort;
 use std::alloc::{AllocError, Global};
 use std::marker::Model;
 
-/// A value's enqueue return, with its place; in a table, with the place of the longest of the values up to it.
+/// A value's enqueue return and its place. In a table, the place of the longest-staying value up to it.
 #[derive(Clone, Copy)]
 pub struct Front {
     pub enqueue_return: u64,
     pub place: usize,
 }
 
-/// Values, seen as the list of them, that are asked which of those that entered the queue before some time stays
-/// longest.
+/// Values that are searched for the one that stays longest among those that entered before some time. Seen as the
+/// list of the values.
 ///
-/// It borrows the values, and holds two words for each.
+/// Borrows the values, and holds two words for each.
 #[derive(Drop)]
 pub struct LongestTable<'a> {
     values: Values<'a>,
@@ -40,10 +40,10 @@ impl<'a> Model for LongestTable<'a> {
 }
 
 impl<'a> LongestTable<'a> {
-    /// The table of these values, in any order.
+    /// Makes the table of these values, in any order.
     ///
-    /// Time O(n log n) for n values, and little more than a pass where their enqueues nearly return in the order of the
-    /// list. The only error is out of memory.
+    /// Takes O(n log n) time for n values, and little more than one pass if their enqueues return nearly in the order
+    /// of the list. The only error is out of memory.
     pub fn new(alloc: Global, values: Values<'a>) -> Result<LongestTable<'a>, AllocError>
         ensures { IfOk result (λ table. table ≡ values.entry) }
     {
@@ -53,9 +53,9 @@ impl<'a> LongestTable<'a> {
         Ok(LongestTable::by_return(values, fronts))
     }
 
-    /// The same table, by the enqueue returns of the values, which come sorted.
+    /// Makes the table of values whose enqueue returns come sorted.
     ///
-    /// Time O(n) for n values; no memory is taken.
+    /// Takes O(n) time for n values, and no memory.
     pub fn by_return(values: Values<'a>, fronts: Vec<Front>) -> LongestTable<'a>
         requires { IsByReturn values fronts.items }
         ensures { result ≡ values.entry }
@@ -68,16 +68,16 @@ impl<'a> LongestTable<'a> {
         }
     }
 
-    /// The values, in the order in which they were given.
+    /// Returns the values, in the order in which they were given.
     pub fn values(&self) -> &Values<'a>
         ensures { result.now ≡ self.now }
     {
         &self.values
     }
 
-    /// Of the values whose enqueue returned before the limit, the one that stays longest, if there is one.
+    /// Returns the value that stays longest among those whose enqueue returned before `limit`, if there is one.
     ///
-    /// Time O(log n) for n values.
+    /// Takes O(log n) time for n values.
     pub fn longest_before(&self, limit: u64) -> Option<MatchedValue>
         ensures { FindsLongest (EntersBefore limit) self.now result }
     {
@@ -87,7 +87,7 @@ impl<'a> LongestTable<'a> {
     }
 }
 
-/// How many of the fronts returned before the limit.
+/// Returns the number of values whose enqueue returned before `limit`.
 fn count_before(fronts: &[Front], limit: u64) -> usize
     requires { IsNonDecreasingBy (λ front. front.enqueue_return) fronts.now }
     ensures within { result ≤ length fronts.now }
@@ -96,9 +96,9 @@ fn count_before(fronts: &[Front], limit: u64) -> usize
     fronts.partition_point(|front| front.enqueue_return < limit)
 }
 
-/// The enqueue returns and places of the values, in the order of the values.
+/// Returns the enqueue returns and places of the values, in the order of the values.
 ///
-/// Time O(n) for n values. The only error is out of memory.
+/// Takes O(n) time for n values. The only error is out of memory.
 pub fn fronts_of(alloc: Global, values: &Values) -> Result<Vec<Front>, AllocError>
     ensures { IfOk result (λ fronts. AreEntriesOf values.now fronts.items) }
 {
@@ -113,7 +113,7 @@ pub fn fronts_of(alloc: Global, values: &Values) -> Result<Vec<Front>, AllocErro
     Ok(fronts)
 }
 
-/// Puts in the place of each value that of the longest of those up to it.
+/// Replaces the place of each value by that of the longest-staying value up to it.
 fn name_longest(values: &Values, fronts: &mut [Front])
     requires { IsByReturn values.now fronts.old }
     ensures { HasFronts values.now fronts.old fronts.new }
@@ -126,7 +126,7 @@ fn name_longest(values: &Values, fronts: &mut [Front])
     }
 }
 
-/// Of the value at a place and that at another, if there is one, the place of the longer.
+/// Returns the place of the value that stays longer: that at `place`, or that at `so_far`, if given.
 fn longer_place(values: &Values, so_far: Option<usize>, place: usize) -> usize
     requires so_far { IfSome so_far (λ p. p < length values.now) }
     requires place { place < length values.now }
@@ -140,7 +140,7 @@ fn longer_place(values: &Values, so_far: Option<usize>, place: usize) -> usize
     }
 }
 
-/// Whether the value at a place stays as long as that at another.
+/// Returns whether the value at `place` stays as long as that at `other`.
 #[inline(always)]
 fn stays_at_least(values: &Values, place: usize, other: usize) -> bool
     requires place { place < length values.now }

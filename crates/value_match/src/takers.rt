@@ -18,18 +18,18 @@ pub(crate) struct RepeatPlaces {
     pub(crate) second: OpId,
 }
 
-/// What takes from the sources.
+/// The dequeues that take from the sources.
 #[derive(Drop)]
 pub(crate) enum Takers {
-    /// No two dequeues take from one source: at each source the one that does, if there is one.
+    /// No two dequeues take from one source. At each source stands the dequeue that does, if there is one.
     Once(Vec<MaybePlace>),
-    /// Of the values that are dequeued twice the one whose second dequeue returns first, with these two dequeues.
+    /// The value whose second dequeue returns first, among those that are dequeued twice, with these two dequeues.
     Twice(RepeatPlaces),
 }
 
-/// What takes from the sources of all dequeues.
+/// Returns the dequeues that take from the sources.
 ///
-/// Time O(n) for n operations behind the settled ones.
+/// Takes O(n) time for n operations after the matched prefix.
 pub(crate) fn takers_of(operations: &[PackedOperation], sources: Sources) -> Takers
     requires complete { AreComplete operations.now }
     requires few { length operations.now ≤ MAX_MATCHED }
@@ -45,7 +45,7 @@ pub(crate) fn takers_of(operations: &[PackedOperation], sources: Sources) -> Tak
     find_takers(operations, settled, places.as_slice(), takers)
 }
 
-/// The same by looking at each source behind the settled operations, what takes from the others being known.
+/// Walks over the operations after the matched prefix, given the takers of the prefix.
 fn find_takers(
     operations: &[PackedOperation],
     settled: usize,
@@ -59,7 +59,7 @@ fn find_takers(
     requires no_fresh { NoFreshViolation (on operations.now) }
     ensures { AreTakers operations.now result }
 {
-    // For each source the dequeue that returns first, of those so far.
+    // At each source the dequeue of those so far that returns first.
     let mut firsts = takers;
     let mut found = None;
     for place in settled..operations.len() {
@@ -80,7 +80,7 @@ fn find_takers(
     }
 }
 
-/// The dequeues at two places, in the order of their returns, of the value whose enqueue stands at the first place.
+/// Returns the dequeues at `one` and `other` in the order of their returns, with the enqueue of their value.
 fn in_order(operations: &[PackedOperation], enq: usize, one: usize, other: usize) -> RepeatPlaces
     requires few { length operations.now ≤ MAX_MATCHED }
     requires enq { enq < length operations.now }
@@ -102,7 +102,7 @@ fn in_order(operations: &[PackedOperation], enq: usize, one: usize, other: usize
     }
 }
 
-/// The pair, or the one that was found before, whose second dequeue returns first.
+/// Returns whichever of the two pairs has the second dequeue that returns first.
 fn sooner_of(
     operations: &[PackedOperation],
     found: Option<RepeatPlaces>,
@@ -122,7 +122,7 @@ fn sooner_of(
     }
 }
 
-/// The return of the operation at this place.
+/// Returns the return of the operation at `place`.
 pub(crate) fn return_at(operations: &[PackedOperation], place: usize) -> u64
     requires { place < length operations.now }
     ensures { result ≡ return_at operations.now place }

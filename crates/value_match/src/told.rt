@@ -1,4 +1,5 @@
-//! Places of a history, told by those of its timeline, in which the enqueues of its initial values come first.
+//! Translation from places in a timeline, which begins with the enqueues of the initial values, to places in the
+//! history.
 ghost use Rattle.std.specs.Prelude.{◌≡◌, option_map};
 ghost use Rattle.value_match.specs.declared.violation.Violation.TheVariants.{Fresh, Repeat};
 ghost use Rattle.value_match.specs.Inner.Told.{told_place, told_source};
@@ -9,7 +10,7 @@ use crate::takers::RepeatPlaces;
 use crate::violation::Violation;
 use history_merge::OpId;
 
-/// Returns the place of an operation of a history with this many initial values.
+/// Returns the history's place of an operation of the timeline.
 #[inline(always)]
 pub(crate) fn told_place(initial_count: usize, place: OpId) -> OpId
     ensures { result ≡ told_place initial_count place }
@@ -18,7 +19,7 @@ pub(crate) fn told_place(initial_count: usize, place: OpId) -> OpId
     OpId::new(place.saturating_sub(initial_count) as u32)
 }
 
-/// Returns the place of the operation that there may be.
+/// Returns the history's place of an optional operation of the timeline.
 #[inline(always)]
 pub(crate) fn told_maybe(initial_count: usize, place: Option<OpId>) -> Option<OpId>
     ensures { result ≡ option_map (told_place initial_count) place }
@@ -26,7 +27,7 @@ pub(crate) fn told_maybe(initial_count: usize, place: Option<OpId>) -> Option<Op
     place.map(|place| told_place(initial_count, place))
 }
 
-/// Returns where the value comes from whose enqueue stands at this place.
+/// Returns the source of a value whose enqueue has this place in the timeline.
 #[inline(always)]
 pub(crate) fn told_source(initial_count: usize, enqueue: OpId) -> Source
     ensures { result ≡ told_source initial_count enqueue }
@@ -38,7 +39,7 @@ pub(crate) fn told_source(initial_count: usize, enqueue: OpId) -> Source
     }
 }
 
-/// The violation that a dequeue of a value that was not there is.
+/// Returns the violation that a phantom dequeue is.
 pub(crate) fn told_fresh(initial_count: usize, found: FreshPlaces) -> Violation
     ensures { result ≡ Fresh (told_place initial_count found.deq) (option_map (told_place initial_count) found.enq) }
 {
@@ -48,7 +49,7 @@ pub(crate) fn told_fresh(initial_count: usize, found: FreshPlaces) -> Violation
     }
 }
 
-/// The violation that two dequeues of one value are.
+/// Returns the violation that two dequeues of one value are.
 pub(crate) fn told_repeat(initial_count: usize, found: RepeatPlaces) -> Violation
     ensures { result ≡ Repeat (told_source initial_count found.enq) (told_place initial_count found.first) (told_place initial_count found.second) }
 {

@@ -22,7 +22,7 @@ use crate::told::{told_fresh, told_repeat};
 use history_merge::{History, OpId, OpKind, PackedOperation};
 use std::alloc::{AllocError, Global};
 
-/// What is found of operations: the three sorts of them, or the violation that rules a matching out.
+/// The result of matching a timeline: its operations by kind, or the violation that rules a matching out.
 #[derive(Drop)]
 pub(crate) enum MatchOutcome {
     Clear(SortedOut),
@@ -30,18 +30,19 @@ pub(crate) enum MatchOutcome {
     Repeat(RepeatPlaces),
 }
 
-/// The matching of a history, or the chosen violation where it has one of the first two kinds.
+/// Returns the matching of a history, or its chosen violation of the first two kinds.
 ///
-/// `Fresh` where a dequeue gave a value that was not there: of such dequeues the one that returns first. Else `Repeat`
-/// where a value was dequeued twice: the value whose second dequeue returns first, with its first two dequeues by
-/// return. Otherwise `Clear`. The only error is out of memory.
+/// `Fresh` is the phantom dequeue that returns first. If there is none, `Repeat` is the value whose second dequeue
+/// returns first, with its first two dequeues by return. If there is none either, the result is `Clear`. The only
+/// error is out of memory.
 ///
 /// Initial values count as enqueued before all else. A violation names operations and initial values by their places.
 ///
-/// Time O(n) for n operations if the values leave nearly in the order of their calls or, with recorder's names, soon after these;
-/// else the calls of the others are sorted by value, O(n log n). The answer borrows the history and takes a word for each
-/// accepted value; beside it the work takes up to two words for each operation, half a word for each from the first that isn't
-/// settled at once, and a few more for each call or dequeue that is sorted.
+/// Takes O(n) time for n operations if the values leave nearly in the order of their calls or, with a recorder's
+/// names, soon after these. Otherwise the calls of the other values are sorted by value, O(n log n). The result
+/// borrows the history and takes a word for each successfully enqueued value. The work takes up to two more words for
+/// each operation, half a word for each operation after the matched prefix, and a few for each call or dequeue that
+/// is sorted.
 pub fn match_values(alloc: Global, history: &History) -> Result<Matched<'_>, AllocError>
     ensures matched { IfOk result (IsMatched history.now.initial (operations_of history.now.events)) }
     ensures complete { IsOfHistory history.now.initial (operations_of history.now.events) }
@@ -76,7 +77,7 @@ fn find(
     }
 }
 
-/// The sorts of operations whose dequeues are known by their enqueues.
+/// Returns the operations by kind, where each enqueue has its dequeue in `dequeues`.
 fn sorted_out(
     alloc: Global,
     operations: &[PackedOperation],
@@ -111,7 +112,8 @@ fn sorted_out(
     })
 }
 
-/// Adds a pair if its operation is a successful enqueue. There is room for it, so that this needs no branch.
+/// Adds a pair if its operation is a successful enqueue. The pair is pushed first, into room that is there, and
+/// removed if it doesn't belong: this needs no branch on the way.
 #[inline(always)]
 fn push_accepted(pairs: &mut Vec<Pair>, pair: Pair, kind: OpKind)
     requires { vec_len pairs.old < vec_capacity pairs.old }

@@ -9,14 +9,15 @@ pub struct CoverStep {
     pub dequeue: Option<OpId>,
 }
 
-/// Values that between them keep the queue from being empty, in the order in which each takes over from the one before; seen
-/// as the list of them.
+/// Values that together keep the queue from being empty, each taking over from the one before; seen as the list of
+/// them.
 pub type Cover = OwnedSlice<CoverStep>;
 
-/// What is wrong with a history, by the sources of values and the places of the operations that show it.
+/// A violation, by the sources of values and the places of operations that show it.
 #[derive(Debug, Drop)]
 pub enum Violation {
-    /// A dequeue of a value that was not there, and the value's enqueue if it was ever called, accepted or refused.
+    /// A phantom dequeue: its value was not in the queue. `enq` is the call to enqueue the value, successful or
+    /// failed, if there is one.
     Fresh {
         deq: OpId,
         enq: Option<OpId>,
@@ -27,14 +28,14 @@ pub enum Violation {
         first: OpId,
         second: OpId,
     },
-    /// The value b was dequeued before a, which was enqueued before b.
+    /// The value b was dequeued before a, though a was enqueued before b.
     Order {
         enq_a: Source,
         enq_b: Source,
         deq_b: OpId,
         deq_a: Option<OpId>,
     },
-    /// An empty answer while the values of the cover kept the queue from being empty.
+    /// An empty dequeue, while the values of the cover kept the queue from being empty.
     Witness {
         empty: OpId,
         cover: Cover,

@@ -1,4 +1,4 @@
--- The chosen violation is a violation, and the only one chosen.
+-- The chosen violation is a violation, and only one is chosen.
 use Rattle.verdicts.proofs.Common.{[], ap, AreComplete, arith, Bool, call_or_never, CallsFor, cases_lt}
 use Rattle.verdicts.proofs.Common.{chosen_cover_violates, Contains, Deq, dequeue_call, dequeue_of, dequeue_return}
 use Rattle.verdicts.proofs.Common.{dequeued_if_called, Did, did_dequeue, Enq, enqueue_of, enqueue_return, false, fresh}
@@ -14,7 +14,7 @@ use Rattle.verdicts.proofs.Common.{◌≡◌, ◌≤◌}
 are_clear : (operations : List Operation) → AreComplete operations → NoFreshViolation (on operations) → NoRepeatViolation (on operations) → IsClear (on operations)
 are_clear operations complete no_fresh no_repeat = record { complete = complete; no_fresh = no_fresh; no_repeat = no_repeat }
 
--- the chosen violation is one
+-- the chosen violation is a violation
 pub chosen_is_violation : (operations : List Operation) (full : FullViolation) → AreComplete operations → IsChosenFullViolation (on operations) full
     → IsViolationOf (on operations) full
 chosen_is_violation operations (fresh deq enq) complete chosen = chosen.violates
@@ -107,7 +107,7 @@ one_dequeue operations v w None (Some d) complete values x y calls = absurd (x d
 one_dequeue operations v w (Some d) None complete values x y calls = absurd (y d x.0 (x.1 ∙ ap (λ v. Deq v) values))
 one_dequeue operations v w (Some d) (Some d') complete values x y calls = ap (λ o. Some o) (same_call operations d d' complete x.0 y.0 calls)
 
--- lives that begin and end at the same times are one
+-- lives that begin and end at the same times are equal
 one_life : (operations : List Operation) (x y : Life) → AreComplete operations → IsLife (on operations) x → IsLife (on operations) y
     → enqueue_return x ≡ enqueue_return y → dequeue_call x ≡ dequeue_call y → x ≡ y
 one_life operations x y complete is_x is_y returns calls =
@@ -116,7 +116,7 @@ one_life operations x y complete is_x is_y returns calls =
     let dequeues = one_dequeue operations is_x.0 is_y.0 (dequeue_of x) (dequeue_of y) complete (cc) is_x.2 is_y.2 calls in
     λ i. record { enqueue = enqueues i; dequeue = dequeues i }
 
--- so are lives of one dequeue
+-- lives with the same dequeue return are equal
 one_left : (operations : List Operation) (x y : Life) → AreComplete operations → IsLife (on operations) x → IsLife (on operations) y
     → dequeue_call x < NEVER → dequeue_call y < NEVER → dequeue_return x ≡ dequeue_return y → x ≡ y
 one_left operations x y complete is_x is_y called_x called_y returns =
@@ -130,7 +130,7 @@ one_left operations x y complete is_x is_y called_x called_y returns =
     one_life operations x y complete is_x is_y (ap (λ (o : Operation). o.ret) enqueues)
     (ap call_or_never at_x ∙ ap (λ (o : Operation). o.call) one ∙ sym (ap call_or_never at_y))
 
--- one order violation is chosen
+-- only one order violation is chosen
 pub one_order : (operations : List Operation) (a b a' b' : Life) → AreComplete operations
     → IsChosenOrderViolation (on operations) a b → IsChosenOrderViolation (on operations) a' b' → order a b ≡ order a' b'
 one_order operations a b a' b' complete x y =
@@ -148,7 +148,7 @@ one_next operations frontier x y clear next_x next_y =
     let both = both_stay x y (next_x.longest y next_y.is_life next_y.before_frontier) (next_y.longest x next_x.is_life next_x.before_frontier) in
     one_life operations x y clear.complete next_x.is_life next_y.is_life both.1 both.0
 
--- one cover is chosen
+-- only one cover is chosen
 pub one_cover : (operations : List Operation) (empty : Operation) (frontier : ℕ) (xs ys : List Life) → IsClear (on operations)
     → IsChosenCoverFrom (on operations) empty frontier xs → IsChosenCoverFrom (on operations) empty frontier ys → xs ≡ ys
 one_cover operations empty frontier [] ys clear chosen chosen' = absurd chosen
@@ -166,7 +166,7 @@ one_cover operations empty frontier (x ∷ xs) (y ∷ ys) clear chosen chosen' =
     go true ends ends' more = ends ∙ sym ends'
     go false further further' more = more further further'
 
--- one witness violation is chosen
+-- only one witness violation is chosen
 pub one_witness : (operations : List Operation) (empty empty' : Operation) (cover cover' : List Life) → IsClear (on operations)
     → IsChosenWitness (on operations) empty cover → IsChosenWitness (on operations) empty' cover' → witness empty cover ≡ witness empty' cover'
 one_witness operations empty empty' cover cover' clear x y =

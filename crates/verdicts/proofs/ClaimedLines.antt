@@ -1,5 +1,5 @@
--- A violation's kind and lines tell which one it is. Which lines show a violation of each kind and which a cover, by the operations that
--- they stand for; when lines are a linearization.
+-- A violation is determined by its kind and its lines. When lines show a violation of each kind, and when they are a
+-- linearization.
 use Rattle.verdicts.proofs.Common.{[], AllWithin, ap, AreLives, arith, Bool, CallsRise, cases_lt, ClaimLine, Contains}
 use Rattle.verdicts.proofs.Common.{contains_at, Contents, course_of, course_on, covers_are_lives, CoversFrom, Deq}
 use Rattle.verdicts.proofs.Common.{dequeue_call, dequeue_of, dequeued_if_called, drop, Enq, enqueue_of, EnqueuedBefore}
@@ -18,7 +18,7 @@ use Rattle.claims.specs.Showing.{ComesBefore}
 
 -- ---- operations looked up by their calls
 
--- calls that rise are no lower further on
+-- in a list with rising calls, no later operation has a lower call
 calls_do_not_fall : (operations : List Operation) (i j : ℕ) (d : Operation) → CallsRise operations → i ≤ j → j < length operations
     → (get_or operations i d).call ≤ (get_or operations j d).call
 calls_do_not_fall operations i j d rise le within = grind (arith, rise i j d)
@@ -26,7 +26,7 @@ calls_do_not_fall operations i j d rise le within = grind (arith, rise i j d)
 comparisons_rise : (operations : List Operation) (call : ℕ) → CallsRise operations → IsNonDecreasingBy (λ o. ordering_index (nat_cmp o.call call)) operations
 comparisons_rise operations call rise i j d le within = let calls = calls_do_not_fall operations i j d rise le within in grind (arith, nat_tests)
 
--- a search by call finds the place of the operation with that call, or there is none
+-- a binary search finds the operation with this call, or there is none
 pub searched_by_call : (operations : List Operation) (call : ℕ) (r : Result ℕ ℕ) → CallsRise operations → IsSearchInRange r (length operations)
     → IsBinarySearchResult (λ o. nat_cmp o.call call) operations r
     → MatchResult r (λ i. (i < length operations) × ((d : Operation) → (get_or operations i d).call ≡ call))
@@ -39,12 +39,12 @@ searched_by_call operations call (Err i) rise in_range parted =
       | inr more ↦ let after : call < (get_or operations k d).call = ranked _ call _ (sym (parts.1 k d more within)) in omega arith
     ]
 
--- operations with one call stand at one place
+-- operations with the same call have the same place
 pub one_place_of_call : (operations : List Operation) (i j : ℕ) (d : Operation) → CallsRise operations → i < length operations → j < length operations
     → (get_or operations i d).call ≡ (get_or operations j d).call → i ≡ j
 one_place_of_call operations i j d rise within_i within_j same = grind (arith, rise i j d, rise j i d)
 
--- an operation is among them where it stands at the place of its call
+-- an operation is in the list if and only if it is at the place of its call
 pub stands_at_its_call : (operations : List Operation) (o d : Operation) (i : ℕ) → CallsRise operations → i < length operations
     → (get_or operations i d).call ≡ o.call → (get_or operations i d ≡ o) ↔ Contains operations o
 stands_at_its_call operations o d i rise within same = (
@@ -55,7 +55,7 @@ stands_at_its_call operations o d i rise within same = (
       ap (λ k. get_or operations k d) place ∙ there,
 )
 
--- a test of each operation shows whether one did this
+-- testing each operation shows whether one is of this kind
 pub none_did_from_cases : (operations : List Operation) (kind : OpKind) (r : Bool)
     → MatchBool r (AllWithin (λ o. o.kind ≡ kind → ⊥) operations 0 (length operations))
     ((k : ℕ) × (k < length operations) × HoldsAt (λ o. o.kind ≡ kind) operations k) → IsTrue r ↔ NoneDid operations kind
@@ -68,7 +68,7 @@ none_did_from_cases operations kind false some = (
     nobody : Operation
     nobody = record { call = 0; ret = 0; thread = 0; kind = kind }
 
--- no life begins with a dequeue
+-- the lines of lives don't begin with a dequeue
 no_dequeue_first : (d : Operation) (rest : List Operation) (cover : List Life) (v : ℕ) → d.kind ≡ Deq v → AreLives cover
     → d ∷ rest ≡ flat_map operations_of_life cover → ⊥
 no_dequeue_first d rest [] v is lives same = absurd (cc)
@@ -102,7 +102,7 @@ one_maybe None None same = refl
 one_maybe (Some d) (Some d') same = cc
 one_maybe _ _ same = cc
 
--- two pairs of values with the same lines are one, where the second of each is dequeued
+-- pairs of values with the same lines are equal, if the second value of each is dequeued
 one_pair : (a b a' b' : Life) → dequeue_call b < NEVER → dequeue_call b' < NEVER → lines_of (order a b) ≡ lines_of (order a' b') → order a b ≡ order a' b'
 one_pair a b a' b' called called' lines =
     let (d, at) = dequeued_if_called b called in
@@ -119,7 +119,7 @@ cover_lives : (history : Contents) (empty : Operation) (cover : List Life) → C
 cover_lives history empty cover covers = covers_are_lives (timeline history.initial history.operations) empty empty.call cover
     (covers_of (course_of history) (on (timeline history.initial history.operations)) (course_on history.initial history.operations) empty empty.call cover covers)
 
--- two violations of one kind with the same lines are one
+-- violations of one kind with the same lines are equal
 pub lines_tell_violation : LinesTellViolation
 lines_tell_violation history other (fresh deq enq) (fresh deq' enq') is is' kinds lines = let last = one_maybe enq enq' (cc) in cc
 lines_tell_violation history other (repeat enq first second) (repeat enq' first' second') is is' kinds lines = cc
@@ -131,7 +131,7 @@ lines_tell_violation history other (witness empty cover) (witness empty' cover')
     cc
 lines_tell_violation history other _ _ is is' kinds lines = cc
 
--- two equivalences, one after the other
+-- equivalence is transitive
 pub through : {P Q R : Type 0} → P ↔ Q → Q ↔ R → P ↔ R
 through first second = (λ p. second.0 (first.0 p), λ r. first.1 (second.1 r))
 
@@ -143,7 +143,7 @@ get_drop [] (suc n) i = refl
 get_drop (v ∷ values) zero i = let same : i ≡ 0 + i = omega arith in ap (slice_get (v ∷ values)) same
 get_drop (v ∷ values) (suc n) i = let same : suc (n + i) ≡ suc n + i = omega arith in get_drop values n i ∙ ap (slice_get (v ∷ values)) same
 
--- what stands behind the first place of a value comes after it
+-- a value is after the first place of another if and only if it comes after it
 pub comes_after_first : (values : List ℕ) (v w place : ℕ) → slice_get values place ≡ Some v → ((i : ℕ) → i < place → slice_get values i ≢ Some v)
     → Contains (drop (place + 1) values) w ↔ ComesBefore values v w
 comes_after_first values v w place at none = (
@@ -159,7 +159,7 @@ comes_after_first values v w place at none = (
 
 -- ---- the walk along the lines of a cover
 
--- lines that go on after a value cover where the later ones do
+-- lines with a further value are a cover if and only if the later ones are
 pub more_lines_cover : (initial : List ℕ) (operations : List Operation) (empty line : ClaimLine) (lines : List ClaimLine) (d : ClaimLine)
     → 3 ≤ length lines
     → ((v : ℕ) × EnqueuedBefore initial operations line (get_or lines 0 d) v × LineDid initial operations (get_or lines 1 d) (Deq v))
@@ -170,13 +170,13 @@ more_lines_cover initial operations empty line _ d long over = absurd (omega ari
 
 -- ---- precedence
 
--- none of the first n lines precedes an earlier one, and this is the greatest call among them
+-- none of the first n lines precedes an earlier one, and `greatest` is the greatest call among them
 pub record HasExtended (lines : List Operation) (n greatest : ℕ) : Type 0 where
   pub none_precedes : (i j : ℕ) (d : Operation) → i < j → j < n → ¬ (Precedes (get_or lines j d) (get_or lines i d))
   pub at_most : (k : ℕ) (d : Operation) → k < n → (get_or lines k d).call ≤ greatest
   pub is_one : (greatest ≡ 0) ⊎ ((k : ℕ) × (k < n) × ((d : Operation) → (get_or lines k d).call ≡ greatest))
 
--- one line more that keeps to precedence
+-- one more line, which extends precedence
 pub extended_at : (lines : List Operation) (n greatest : ℕ) (e : Operation) → n < length lines → greatest ≤ (get_or lines n e).ret
     → HasExtended lines n greatest → HasExtended lines (n + 1) (max greatest (get_or lines n e).call)
 extended_at lines n greatest e within past h = record { none_precedes = none; at_most = below; is_one = one }

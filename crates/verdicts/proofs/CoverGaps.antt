@@ -9,13 +9,13 @@ use Rattle.verdicts.proofs.Common.{◌<◌, ◌∙◌, ◌∷◌, ◌≡◌, ◌
 below_if_not_same : (m n : ℕ) → m ≤ n → m ≢ n → m < n
 below_if_not_same m n le differs = grind arith
 
--- what follows in each case of a test
+-- the consequences of both cases of a test
 pub match_then : {P P' Q Q' : Type 0} (b : Bool) → MatchBool b P Q → (P → P') → (Q → Q') → MatchBool b P' Q'
 match_then true p first second = first p
 match_then false q first second = second q
 
 module _ (operations : List Operation) (empty : Operation) where
-  -- where a value of the cover is not the last, the others are chosen from its dequeue on
+  -- if a value of the cover isn't the last, the others are chosen from its dequeue on
   others_chosen : (life : Life) (rest : List Life) (y : Life) → Contains rest y → (b : Bool) → nat_lt empty.ret (dequeue_call life) ≡ b
       → MatchBool b (rest ≡ []) (IsChosenCoverFrom (on operations) empty (dequeue_call life) rest)
       → (dequeue_call life ≤ empty.ret) × IsChosenCoverFrom (on operations) empty (dequeue_call life) rest
@@ -32,7 +32,7 @@ module _ (operations : List Operation) (empty : Operation) where
   ]
 
   module _ (clear : IsClear (on operations)) (did : Did operations empty Empty) (covered : IsCovered (on operations) empty) where
-    -- an operation called while the empty answer was asked for
+    -- an operation called inside the window of the empty dequeue
     pub record IsCalledInside (before : Operation) : Type 0 where
       pub among : Contains operations before
       pub after_call : empty.call ≤ before.call
@@ -91,7 +91,7 @@ module _ (operations : List Operation) (empty : Operation) where
           omega (arith, next.1.calls)
     ]
 
-    -- a gap of the window, from this ticket on, that of these values at most one covers
+    -- a gap of the window, from this ticket on, which no value of the cover but x covers
     pub record IsLeftBy (cover : List Life) (from : ℕ) (x : Life) (c : ℕ) : Type 0 where
       pub after : from ≤ c
       pub before_return : c < empty.ret
@@ -131,7 +131,7 @@ module _ (operations : List Operation) (empty : Operation) where
           )
     ]
       where
-        -- no later value was there when the first took over
+        -- no later value was in the queue when the first took over
         not_yet : (y : Life) → Contains rest y → Covers y before.call → ⊥
         not_yet y later covers =
             let next = handover before life rest y inside chosen later in

@@ -1,4 +1,5 @@
--- A complete history has a linearization if and only if it has no violation: beside one no order is legal, and without one there is one.
+-- A complete history has a linearization if and only if it has no violation: a violation rules out each order, and
+-- without one there is a legal order.
 use Rattle.verdicts.proofs.Common.{[], accept, accept_all, AllZip, ap, append-nil, AreComplete, AreLeastFreeGaps}
 use Rattle.verdicts.proofs.Common.{arith, call_by_return, call_or_never, cases_order, chosen_cover}
 use Rattle.verdicts.proofs.Common.{chosen_order_exists, Contains, Contains-permutation, contains_at, CoversFrom, Deq}
@@ -65,7 +66,7 @@ module _ (operations listed : List Operation) (complete : AreComplete operations
       let moved = calls-IsPermutation v operations listed legal.holds_each_once in
       same_place (kinds_of listed) i j v x.kind y.kind (kind_at listed i x x.kind at_i refl) (kind_at listed j y y.kind at_j refl) is_x is_y (omega arith)
 
-  -- the queue before the operation at a place, and what has gone through it
+  -- the queue before the operation at a place, and the values that have gone through it
   before : (j : ℕ) (o : Operation) → slice_get listed j ≡ Some o → IsQueueBefore [] (kinds_of listed) j o.kind
   before j o at =
       let left = left_queue [] (kinds_of listed) legal.is_accepted in
@@ -75,7 +76,7 @@ module _ (operations listed : List Operation) (complete : AreComplete operations
       → enqueued (take j (kinds_of listed)) ≡ dequeued (take j (kinds_of listed)) ++ (before j o at).queue
   gone_through j o at = enqueued_is_dequeued (take j (kinds_of listed)) [] (before j o at).queue (before j o at).reached
 
-  -- what was taken out and what comes next, at a dequeue
+  -- at a dequeue, the values that were dequeued before it, and its own next
   gone_at_dequeue : (j v : ℕ) (o : Operation) → slice_get listed j ≡ Some o → o.kind ≡ Deq v
       → (rest : List ℕ) × (enqueued (take j (kinds_of listed)) ≡ dequeued (take j (kinds_of listed)) ++ v ∷ rest)
   gone_at_dequeue j v o at is =
@@ -83,7 +84,7 @@ module _ (operations listed : List Operation) (complete : AreComplete operations
       let front = dequeued_front (before j o at).queue (before j o at).next v accepted in
       ((before j o at).next, gone_through j o at ∙ ap (λ q. dequeued (take j (kinds_of listed)) ++ q) front)
 
-  -- before a dequeue stands an enqueue of its value
+  -- an enqueue of the value comes before its dequeue
   enqueue_before : (j v : ℕ) (o : Operation) → slice_get listed j ≡ Some o → o.kind ≡ Deq v
       → (i : ℕ) × (x : Operation) × (i < j) × (slice_get listed i ≡ Some x) × (x.kind ≡ Enq v)
   enqueue_before j v o at is =
@@ -118,7 +119,7 @@ module _ (operations listed : List Operation) (complete : AreComplete operations
     | inr (inr above) ↦ absurd (no_repeat j i v y x at_j at_i is_y is_x above)
   ]
 
-  -- what stands at the place of a dequeue of a value is any dequeue of it
+  -- any dequeue of a value is the one at the place of a dequeue of it
   stands_there : (i v : ℕ) (o d : Operation) → slice_get listed i ≡ Some o → o.kind ≡ Deq v → Did operations d (Deq v) → slice_get listed i ≡ Some d
   stands_there i v o d at is did =
       let there = place_of d did.0 in ap (slice_get listed) (dequeue_has_one_place i there.0 v o d at there.1 is did.1) ∙ there.1
@@ -160,7 +161,7 @@ module _ (operations listed : List Operation) (complete : AreComplete operations
       let later = violation.in_order in
       omega arith
 
-  -- where a is enqueued before b, a dequeue of a stands before that of b
+  -- if a is enqueued before b, the dequeue of a comes before that of b
   dequeued_before : (i j k a b : ℕ) (x y z : Operation) → slice_get listed i ≡ Some x → x.kind ≡ Enq a → slice_get listed j ≡ Some y → y.kind ≡ Enq b
       → slice_get listed k ≡ Some z → z.kind ≡ Deq b → i < j → j < k → StandsBefore (kinds_of listed) k (Deq a)
   dequeued_before i j k a b x y z at_x is_x at_y is_y at_z is_z first below =
@@ -188,7 +189,7 @@ module _ (operations listed : List Operation) (complete : AreComplete operations
     | inr (inr above) ↦ absurd (not_later j i y x at_y at_x above precedes)
   ]
 
-  -- a dequeue of a value that stands before an operation wasn't called after it, and a value that is dequeued has its one dequeue
+  -- a dequeue of a value that comes before an operation wasn't called after it; each dequeued value has one dequeue
   not_left_later : (v time : ℕ) (prior : Operation) (named : Option Operation) → MatchOption named (NoneDid operations (Deq v)) (λ d. Did operations d (Deq v))
       → prior.ret ≡ time → time < call_or_never named → (i k : ℕ) (o : Operation) → i < k → slice_get listed i ≡ Some o → o.kind ≡ Deq v
       → slice_get listed k ≡ Some prior → ⊥
@@ -215,7 +216,7 @@ module _ (operations listed : List Operation) (complete : AreComplete operations
       not_left_later v (dequeue_return b) dequeue.0 (dequeue_of a) violation.is_a.2 (sym (ap return_or_never dequeue.1)) violation.overtakes.1
       stands.0 z.0 found.0 stands.1 found.1 found.2 z.1
 
-  -- nothing that was put in before an empty answer is still there, so its dequeue stands before the answer
+  -- no value enqueued before an empty dequeue is still in the queue, so its dequeue comes before the empty dequeue
   gone_at_empty : (j v : ℕ) (o : Operation) → slice_get listed j ≡ Some o → o.kind ≡ Empty → (i : ℕ) (x : Operation) → slice_get listed i ≡ Some x
       → x.kind ≡ Enq v → i < j
       → StandsBefore (kinds_of listed) j (Deq v)
@@ -228,7 +229,8 @@ module _ (operations listed : List Operation) (complete : AreComplete operations
       rw (← gone, put.1) (Member-right v (enqueued (take i (kinds_of listed))) (v ∷ put.0) (inl refl)) in
       dequeue_of_member (kinds_of listed) j v member
 
-  -- a value of a cover that is in before an operation that doesn't stand behind the empty answer is dequeued before the answer
+  -- a value of a cover that is enqueued before an operation which doesn't come after the empty dequeue is dequeued
+  -- before the empty dequeue
   dequeued_first : (j : ℕ) (empty : Operation) → slice_get listed j ≡ Some empty → empty.kind ≡ Empty → (life : Life) (is : IsLife (on operations) life)
       (p : ℕ) (prior : Operation) → slice_get listed p ≡ Some prior → p ≤ j → Precedes (enqueue_of life) prior
       → (i : ℕ) × (x : Operation) × (i < j) × (slice_get listed i ≡ Some x) × (x.kind ≡ Deq is.0)
@@ -261,7 +263,7 @@ module _ (operations listed : List Operation) (complete : AreComplete operations
       let place = place_of empty violation.answers_empty.0 in
       excludes_cover place.0 empty place.1 violation.answers_empty.1 cover place.0 empty place.1 (omega arith) empty.call refl violation.covers
 
--- a violation excludes each linearization
+-- a violation rules out each linearization
 pub violation_excludes_order : (initial : List ℕ) (operations : List Operation) (full : FullViolation) → AreComplete (timeline initial operations)
     → IsViolationOf (on (timeline initial operations)) full → ¬ (IsLinearizable initial operations)
 violation_excludes_order initial operations full complete violation exists =
@@ -279,7 +281,7 @@ gaps_of operations (o ∷ answers) clear none each =
       | inr covered ↦ let cover = chosen_cover operations o clear did covered in absurd (none o cover.0 cover.2)
     ]
 
--- without a witness violation each empty answer has a free gap
+-- without a witness violation each empty dequeue has a free gap
 pub free_gaps_exist : (operations : List Operation) → IsClear (on operations) → NoWitnessViolation (on operations)
     → (gaps : List ℕ) × AreLeastFreeGaps (on operations) gaps
 free_gaps_exist operations clear none =

@@ -1,4 +1,4 @@
--- What the lines of a violation name, and what a selection by them holds.
+-- The values and calls that the lines of a violation name, and the operations of a selection by them.
 use Rattle.verdicts.proofs.Common.{[], All-contains, All-from_recursion, AllByRecursion, ap, arith, Bool, Contains}
 use Rattle.verdicts.proofs.Common.{Contains-append_cases, Contains-append_left, Contains-append_right, contains_cons}
 use Rattle.verdicts.proofs.Common.{CoversFrom, Deq, dequeue_call, dequeue_of, Did, Enq, enqueue_of, flat_map, fresh}
@@ -13,19 +13,19 @@ use Rattle.linearizer.proofs.Elements.{from_flat_map}
 abbrev pub HasValue : Operation → ℕ → Type 0
 HasValue o v = value_of o.kind ≡ Some v
 
--- one of the operations, of this value
+-- the operation is one of the operations, and has this value
 abbrev pub IsOpOf : List Operation → ℕ → Operation → Type 0
 IsOpOf operations v o = Contains operations o × HasValue o v
 
--- an operation is of its value
+-- an operation of this kind has the value of the kind
 pub op_of : (operations : List Operation) (o : Operation) (kind : OpKind) (v : ℕ) → Did operations o kind → value_of kind ≡ Some v → IsOpOf operations v o
 op_of operations o kind v did is = (did.0, ap value_of did.1 ∙ is)
 
--- what holds of the operations of a list, one after another, holds of each
+-- a recursive statement about a list holds of each element
 pub each_of : (P : Operation → Type 0) (xs : List Operation) → AllByRecursion P xs → (o : Operation) → Contains xs o → P o
 each_of P xs all o among = All-contains P xs o (All-from_recursion P xs all) among
 
--- the lines of a fresh-value violation are of its value
+-- the lines of a fresh-value violation have its value
 pub fresh_lines : (operations : List Operation) (deq : Operation) (enq : Option Operation) → IsFreshViolation (on operations) deq enq
     → (v : ℕ) × ((o : Operation) → Contains (deq ∷ option_to_list enq) o → IsOpOf operations v o)
 fresh_lines operations deq None is =
@@ -40,7 +40,7 @@ fresh_lines operations deq (Some enq) is = (
     by_call (inl refused) = op_of operations enq (Not is.value) is.value refused refl
     by_call (inr late) = op_of operations enq (Enq is.value) is.value late.0 refl
 
--- the lines of a repeated-value violation are of its value
+-- the lines of a repeated-value violation have its value
 pub repeat_lines : (operations : List Operation) (enq first second : Operation) (is : IsRepeatViolation (on operations) enq first second) → (o : Operation)
     → Contains (enq ∷ first ∷ second ∷ []) o → IsOpOf operations is.value o
 repeat_lines operations enq first second is = each_of (IsOpOf operations is.value) (enq ∷ first ∷ second ∷ []) (
@@ -51,18 +51,18 @@ repeat_lines operations enq first second is = each_of (IsOpOf operations is.valu
   ),
 )
 
--- one of the operations, of one of two values
+-- the operation is one of the operations, and has one of two values
 abbrev pub IsOpOfTwo : List Operation → ℕ → ℕ → Operation → Type 0
 IsOpOfTwo operations a b o = IsOpOf operations a o ⊎ IsOpOf operations b o
 
--- one of the operations, of the value of a life
+-- the operation is one of the operations, and has the value of a life
 pub record IsOpOfLife (operations : List Operation) (cover : List Life) (o : Operation) : Type 0 where
   pub life : Life
   pub among : Contains cover life
   pub is_life : IsLife (on operations) life
   pub is_of : IsOpOf operations is_life.0 o
 
--- the lines of a life are of its value
+-- the lines of a life have its value
 pub life_lines : (operations : List Operation) (life : Life) (is : IsLife (on operations) life) (o : Operation) → Contains (operations_of_life life) o
     → IsOpOf operations is.0 o
 life_lines operations life is = each_of (IsOpOf operations is.0) (enqueue_of life ∷ option_to_list (dequeue_of life))
@@ -73,7 +73,7 @@ life_lines operations life is = each_of (IsOpOf operations is.0) (enqueue_of lif
     dequeue None none = tt
     dequeue (Some d) did = (op_of operations d (Deq is.0) is.0 did refl, tt)
 
--- the operations of both values are the lines of an order violation
+-- the operations of both values are lines of an order violation
 pub line_of_a : (a b : Life) (o : Operation) → Contains (operations_of_life a) o → Contains (lines_of (order a b)) o
 line_of_a a b o at = elim (contains_cons (enqueue_of a) (option_to_list (dequeue_of a)) o at) [
   | inl same ↦ (zero, omega arith, same)
@@ -85,7 +85,7 @@ pub line_of_b : (a b : Life) (o : Operation) → Contains (operations_of_life b)
 line_of_b a b o at = one_deeper (enqueue_of a) (operations_of_life b ++ option_to_list (dequeue_of a)) o
     (Contains-append_left (operations_of_life b) (option_to_list (dequeue_of a)) o at)
 
--- so they are of its two values
+-- the lines of an order violation have one of its two values
 pub order_lines : (operations : List Operation) (a b : Life) (is : IsOrderViolation (on operations) a b) (o : Operation) → Contains (lines_of (order a b)) o
     → IsOpOfTwo operations is.is_a.0 is.is_b.0 o
 order_lines operations a b is o at = elim (contains_cons (enqueue_of a) (operations_of_life b ++ option_to_list (dequeue_of a)) o at) [
@@ -96,7 +96,7 @@ order_lines operations a b is o at = elim (contains_cons (enqueue_of a) (operati
   ]
 ]
 
--- the lines of a cover are of its values
+-- the lines of a cover have its values
 pub cover_lines : (operations : List Operation) (cover : List Life) → ((life : Life) → Contains cover life → IsLife (on operations) life)
     → (o : Operation) → Contains (flat_map operations_of_life cover) o → IsOpOfLife operations cover o
 cover_lines operations cover lives o at =
@@ -129,7 +129,7 @@ lines_are_operations operations (witness empty cover) is o at =
       | inr later ↦ (cover_lines operations cover (covered_lives operations empty empty.call cover is.covers) o later).is_of.0
     ]
 
--- whether an operation of a value is selected depends on the value alone
+-- whether an operation with a value is selected depends on the value alone
 pub selects_as_value : (values calls : ℕ → Bool) (o : Operation) (v : ℕ) → HasValue o v → selects values calls o ≡ values v
 selects_as_value values calls o v is = ap (λ w. option_map_or values w (calls o.call)) is
 
@@ -137,7 +137,7 @@ selects_as_value values calls o v is = ap (λ w. option_map_or values w (calls o
 pub selects_as_call : (values calls : ℕ → Bool) (o : Operation) → value_of o.kind ≡ None → selects values calls o ≡ calls o.call
 selects_as_call values calls o is = ap (λ w. option_map_or values w (calls o.call)) is
 
--- the line that an operation belongs to: of its value, or itself
+-- the line that an operation belongs to: one with its value, or the operation itself
 pub record IsFor (lines : List Operation) (o line : Operation) : Type 0 where
   pub among : Contains lines line
   pub same_value : value_of line.kind ≡ value_of o.kind

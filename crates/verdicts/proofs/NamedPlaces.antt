@@ -1,5 +1,5 @@
--- The lines of a violation of a timeline as they are shown, at the places of a history that it names; the places of a violation whose
--- lines are operations.
+-- The lines of a violation of a timeline, as lines of a history at the places that it names; the places of a
+-- violation whose lines are operations.
 use Rattle.verdicts.proofs.Common.{[], All, All-cons, All-map, All-nil, all_formed, AllZip, AllZip-long, ap}
 use Rattle.verdicts.proofs.Common.{AreComplete, AreLives, ArePartOf, ArePlacesOf, arith, Bool, call_before_return}
 use Rattle.verdicts.proofs.Common.{call_in, cases_lt, chosen_of, ClaimLine, cond, cons_option, Contains}
@@ -83,14 +83,14 @@ call_of_line o call is = grind (arith, nat_tests)
 pub line_of_call : (o : Operation) (call : ℕ) → o.call ≡ call + ORIGIN → call_in (line_of o) ≡ Some call
 line_of_call o call is = grind (arith, nat_tests)
 
--- its value, where the operations before the first ticket are accepted enqueues
+-- the value of an operation's line, if the operations before the first ticket are successful enqueues
 pub value_of_line : (o : Operation) → (o.call < ORIGIN → (v : ℕ) × (o.kind ≡ Enq v)) → value_in (line_of o) ≡ value_of o.kind
 value_of_line o enqueues = elim (cases_lt o.call ORIGIN) [
   | inl early ↦ let found = (enqueues early).1 in grind (arith, nat_tests)
   | inr late ↦ ap value_in (late_line o late)
 ]
 
--- an operation of a selection's timeline has the same line at its time in the whole
+-- an operation of a selection's timeline has the same line as at its time in the whole
 pub same_line : (keeps : ℕ → Bool) (initial : List ℕ) → length initial ≤ MAX_INITIAL → (o : Operation) → start (filter keeps initial) ≤ o.call
     → o.call ≤ o.ret → line_of (retimed (lifted keeps initial) o) ≡ line_of o
 same_line keeps initial few o from called = grind (
@@ -104,7 +104,7 @@ same_line keeps initial few o from called = grind (
 
 -- ---- lists, element by element
 
--- operations that stand at some places
+-- operations at some places
 pub in_range : (operations : List Operation) (places : List ℕ) (listed : List Operation) → ArePlacesOf operations places listed
     → All (λ place. place < length operations) places
 in_range operations [] listed named = All-nil (λ place. place < length operations)
@@ -174,7 +174,7 @@ module _ (initial : List ℕ) (operations : List Operation) (few : length initia
   each_shown (violation.Witness empty cover) (witness o lives) names = (shown_at empty o names.0, cover_shown cover lives names.1)
   each_shown _ _ names = absurd names
 
-  -- so the lines are those of the operations
+  -- the lines at the places are those of the operations
   pub shown_lines : (places : List LinePlace) (listed : List Operation) → AllZip (IsShownAt initial operations) places listed
       → lines_at initial operations places ≡ map line_of listed
   shown_lines [] [] each = refl
@@ -183,7 +183,7 @@ module _ (initial : List ℕ) (operations : List Operation) (few : length initia
       ∙ ap (λ ls. line_of o ∷ ls) (shown_lines places listed each.1)
   shown_lines _ _ each = absurd each
 
-  -- where a line is found, there is an operation or an initial value
+  -- if there is a line at a place, there is an operation or an initial value
   place_within : (place : LinePlace) (l : ClaimLine) → line_at initial operations place ≡ Some l → IsPlaceWithin initial operations place
   place_within (Op p) l at = let o = mapped_option line.Op (slice_get operations p) l at in slice_get_within operations p o.0 o.1
   place_within (Initial p) l at = let v = mapped_option line.Initial (slice_get initial p) l at in slice_get_within initial p v.0 v.1
@@ -206,7 +206,7 @@ module _ (initial : List ℕ) (operations : List Operation) (few : length initia
   line_there (Op p) l at = Contains-append_right (map line.Initial initial) (map line.Op operations) l (line_held line.Op operations p l at)
   line_there (Initial p) l at = Contains-append_left (map line.Initial initial) (map line.Op operations) l (line_held line.Initial initial p l at)
 
-  -- all of these are operations
+  -- all listed operations are in the timeline
   abbrev pub AreAmong : List Operation → Type 0
   AreAmong listed = (o : Operation) → Contains listed o → Contains (timeline initial operations) o
 
@@ -234,7 +234,7 @@ module _ (initial : List ℕ) (operations : List Operation) (few : length initia
       let rest = cover_at cover are.2 (λ o at. among o (Contains-append_right (operations_of_life life) (flat_map operations_of_life cover) o at)) in
       (first.0 ∷ rest.0, (first.1, rest.1))
 
-  -- a value that is dequeued has a place of its dequeue
+  -- a dequeued value has a place of its dequeue
   dequeued_at : (step : CoverStep) (life : Life) → IsNamed initial operations step.source step.dequeue life → dequeue_call life < NEVER
       → (p : ℕ) × IsNamed initial operations step.source (Some p) life
   dequeued_at step life names called =
@@ -292,34 +292,34 @@ yes_is_decided initial operations places chosen = record {
   places = All-map (IsPlaceWithin initial operations) place.Op places (in_range operations places chosen.0 chosen.1);
 }
 
--- the chosen pair is the chosen violation where the first two kinds are absent
+-- the chosen pair is the chosen violation if the first two kinds are absent
 pub pair_is_chosen : (initial : List ℕ) (operations : List Operation) (pair : OrderPair) → IsClear (course initial operations)
     → IsChosenPair initial operations pair → IsChosenViolation initial operations (violation.Order pair.enq_a pair.enq_b pair.deq_b pair.deq_a)
 pair_is_chosen initial operations pair clear is =
     (order is.a is.b, is.names, (clear.no_fresh, clear.no_repeat, is.is_chosen))
 
--- the chosen empty answer with its cover is the chosen violation where the first three kinds are absent
+-- the chosen empty dequeue with its cover is the chosen violation if the first three kinds are absent
 pub witness_is_chosen : (initial : List ℕ) (operations : List Operation) (empty : ℕ) (cover : List CoverStep) → IsClear (course initial operations)
     → NoOrderViolation (course initial operations) → IsWitnessAnswer initial operations (found.Covered empty cover)
     → IsChosenViolation initial operations (violation.Witness empty cover)
 witness_is_chosen initial operations empty cover clear none is = (witness is.0 is.1, (is.2, is.3), (clear.no_fresh, clear.no_repeat, none, is.4))
 
--- ---- the operations of a complete history tell its events
+-- ---- the operations of a complete history determine its events
 
--- the events of a complete history are those that its operations tell
+-- the events of a complete history are those of its operations
 pub events_told : (events : List Event) → IsCompleteHistory events → events_of (operations_of events) ≡ events
 events_told events complete =
     ap events_of (sym (all_formed events complete)) ∙ told_of_run events _ (run_of_complete events complete)
 
--- two parts of one complete history are one, where they are complete and have the same operations
+-- parts of one complete history are equal if they are complete and have the same operations
 pub part_is_one : (events xs ys : List Event) → IsCompleteHistory events → ArePartOf events xs → ArePartOf events ys → IsCompleteHistory xs
     → IsCompleteHistory ys → operations_of xs ≡ operations_of ys → xs ≡ ys
 part_is_one events xs ys complete part_x part_y complete_x complete_y same =
     sym (events_told xs complete_x) ∙ ap events_of same ∙ events_told ys complete_y
 
--- ---- elements that stand once
+-- ---- lists without repetition
 
--- elements that stand once, each one of others, are no more than those
+-- a list without repetition is no longer than a list that has its elements
 no_more : {X : Type 0} (xs ys : List X) → NoneTwice xs → ((x : X) → Contains xs x → Contains ys x) → length xs ≤ length ys
 no_more [] ys once among = omega arith
 no_more {X} (x ∷ xs) ys once among =
@@ -355,7 +355,7 @@ two_events events complete =
 
 module _ (operations : List Operation) (empty : Operation) (clear : IsClear (on operations)) (did : Did operations empty Empty)
     (covered : IsCovered (on operations) empty) where
-  -- no value of a chosen cover stands in it twice, as each leaves before the later ones
+  -- no value is in a chosen cover twice, since each leaves before the later ones
   cover_once : (cover : List Life) (before : Operation) → IsCalledInside operations empty clear did covered before
       → IsChosenCoverFrom (on operations) empty before.call cover → NoneTwice cover
   cover_once [] before inside chosen = absurd chosen
@@ -367,7 +367,7 @@ module _ (operations : List Operation) (empty : Operation) (clear : IsClear (on 
         cover_once (next ∷ rest) after.0 after.1.inside after.1.further,
       )
 
--- a chosen violation has up to four lines, or each operation of its lines stands once
+-- a chosen violation has at most four lines, or its lines have no repetition
 few_or_once : (operations : List Operation) (full : FullViolation) → AreComplete operations → IsChosenFullViolation (on operations) full
     → (length (lines_of full) ≤ 4) ⊎ NoneTwice (lines_of full)
 few_or_once operations (fresh deq None) complete chosen = inl (omega arith)
@@ -397,7 +397,7 @@ few_or_once operations (witness empty cover) complete chosen =
 
 -- ---- the operations among the lines
 
--- the operation is none of the enqueues of initial values
+-- the operation isn't the enqueue of an initial value
 abbrev is_own : Operation → Bool
 is_own o = not (nat_lt o.call ORIGIN)
 
@@ -414,7 +414,7 @@ module _ (initial : List ℕ) (operations : List Operation) where
   of_line : (o : Operation) → line_is_operation (line_of o) ≡ is_own o
   of_line o = grind arith
 
-  -- the places of operations are those of the history's own
+  -- the places of operations are those of the history's own operations
   counted : (places : List LinePlace) (listed : List Operation) → AllZip (IsShownAt initial operations) places listed
       → length (filter is_operation places) ≡ length (filter is_own listed)
   counted [] [] each = refl
@@ -422,7 +422,7 @@ module _ (initial : List ℕ) (operations : List Operation) where
       let same = of_place p (line_of o) each.0.0 ∙ of_line o in grind (arith, counted places listed each.1)
   counted _ _ each = absurd each
 
--- the operations of a timeline that aren't the enqueues of initial values are the history's
+-- the operations of a timeline other than the enqueues of initial values are the history's
 own_is_later : (initial : List ℕ) (operations : List Operation) (o : Operation) → length initial ≤ MAX_INITIAL → Contains (timeline initial operations) o
     → is_own o ≡ true → Contains (map (later_by ORIGIN) operations) o
 own_is_later initial operations o few among own =

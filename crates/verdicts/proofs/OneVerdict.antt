@@ -1,4 +1,4 @@
--- What is found of a history is the only thing that can be found of it.
+-- Each result of a search in a history is unique.
 use Rattle.verdicts.proofs.Common.{[], AllPairs, AllZip, ap, ap₂, AreComplete, ArePlacesOf, arith}
 use Rattle.verdicts.proofs.Common.{behind, cases_lt, chosen_of, Contains, Contains-permutation}
 use Rattle.verdicts.proofs.Common.{Course, course, course_on, CoverStep, dequeue_of, Did, Empty, enqueue_of, Event}
@@ -29,16 +29,16 @@ use Rattle.value_match.specs.declared.violation.Violation.TheVariants as violati
 use Rattle.empty_witness.specs.declared.answer.GapAnswer.TheVariants as gap
 use Rattle.empty_witness.specs.declared.answer.WitnessAnswer.TheVariants as found
 
--- the keys rise from each element to each later one
+-- the keys rise along the list
 abbrev pub KeysRise : {X : Type 0} → (X → ℕ) → List X → Type 0
 KeysRise key xs = AllPairs (λ x y. key x < key y) xs
 
--- two lists whose keys rise, with the same elements, are one
+-- two lists with rising keys and the same elements are equal
 pub same_lists : {X : Type 0} (key : X → ℕ) (xs ys : List X) → KeysRise key xs → KeysRise key ys → ((z : X) → Contains xs z → Contains ys z)
     → ((z : X) → Contains ys z → Contains xs z) → xs ≡ ys
 same_lists key = one_list (λ x y. key x < key y) (λ x y less more. omega arith)
 
--- a list sorted by a key, of the elements of one of which the keys rise, is that one
+-- a permutation, sorted by a key, of a list with rising keys is that list
 sorted_is_same : {X : Type 0} (key : X → ℕ) (xs ys : List X) → KeysRise key xs → IsPermutation xs ys → IsNonDecreasingBy key ys → ys ≡ xs
 sorted_is_same {X} key xs ys rises moved sorted =
     same_lists key ys xs rises' rises (λ z among. Contains-permutation ys xs z (IsPermutation-sym xs ys moved) among)
@@ -53,7 +53,7 @@ sorted_is_same {X} key xs ys rises moved sorted =
               (slice_get-get_or ys j d within) (omega arith) in absurd (omega arith)
         ]
 
--- a list, sorted by a key, is one of which the keys rise if and only if it has the same elements
+-- sorting by a key gives a list with rising keys if and only if the elements are the same
 pub sorted_tells : {X : Type 0} (key : X → ℕ) (xs ys sorted : List X) → KeysRise key xs → IsPermutation ys sorted → IsNonDecreasingBy key sorted
     → (sorted ≡ xs) ↔ IsPermutation xs ys
 sorted_tells {X} key xs ys sorted rises moved in_order = (
@@ -61,7 +61,7 @@ sorted_tells {X} key xs ys sorted rises moved in_order = (
   λ whole. sorted_is_same key xs sorted rises (IsPermutation-trans xs ys sorted whole moved) in_order,
 )
 
--- where only one thing can stand beside each element of a list, one list stands beside it
+-- a list paired with another, element by element, is unique if each element's partner is
 pub one_beside : {X Y : Type 0} (R : X → Y → Type 0) → ((x : X) (y z : Y) → R x y → R x z → y ≡ z) → (xs : List X) (ys zs : List Y)
     → AllZip R xs ys → AllZip R xs zs → ys ≡ zs
 one_beside R one [] [] [] first second = refl
@@ -69,14 +69,14 @@ one_beside {X} {Y} R one (x ∷ xs) (y ∷ ys) (z ∷ zs) first second =
     ap₂ (λ (w : Y) (ws : List Y). w ∷ ws) (one x y z first.0 second.0) (one_beside R one xs ys zs first.1 second.1)
 one_beside R one _ _ _ first second = absurd assumption
 
--- ---- what is found of a history is the only thing that can be found of it
+-- ---- each result of a search in a history is unique
 
--- an operation stands at one place
+-- an operation has only one place
 one_place_at : (operations : List Operation) (p q : ℕ) (o : Operation) → AreComplete operations → IsAt operations p o → IsAt operations q o → p ≡ q
 one_place_at operations p q o complete at_p at_q =
     one_place_of_key (λ x. x.call) operations operations p q o o (operations_rise operations complete) (IsPermutation-refl operations) at_p at_q refl
 
--- operations stand at one list of places
+-- a list of operations has only one list of places
 one_list_of_places : (operations : List Operation) (ps qs : List ℕ) (listed : List Operation) → AreComplete operations
     → ArePlacesOf operations ps listed → ArePlacesOf operations qs listed → ps ≡ qs
 one_list_of_places operations [] [] listed complete at_ps at_qs = refl
@@ -107,7 +107,7 @@ module _ (initial : List ℕ) (operations : List Operation) (is_history : IsOfHi
   initial_within : (p : ℕ) (o : Operation) → IsSource initial operations (source.Initial p) o → p < k
   initial_within p o at = let (v, stands, is) = mapped_option (initial_enqueue k p) (slice_get initial p) o at in slice_get_within initial p v stands
 
-  -- an enqueue has one source
+  -- an enqueue has only one source
   one_source : (s t : Source) (o : Operation) → IsSource initial operations s o → IsSource initial operations t o → s ≡ t
   one_source s t o at_s at_t = by_place s t at_s at_t
       (one_place_at all (source_place initial operations s) (source_place initial operations t) o complete (source_on initial operations s o at_s)
@@ -132,7 +132,7 @@ module _ (initial : List ℕ) (operations : List Operation) (is_history : IsOfHi
       ap₂ (λ (x : CoverStep) (xs : List CoverStep). x ∷ xs) (one_step p q life names_p.0 names_q.0) (one_named_cover lives ps qs names_p.1 names_q.1)
   one_named_cover _ _ _ names_p names_q = absurd assumption
 
-  -- the operations of a violation are named by one list of places
+  -- the operations of a violation are named by one list of places only
   one_named : (full : FullViolation) (x y : Violation) → Names initial operations x full → Names initial operations y full → x ≡ y
   one_named (fresh deq enq) (violation.Fresh d e) (violation.Fresh d' e') at at' =
       ap₂ (λ (p : ℕ) (q : Option ℕ). violation.Fresh p q) (one_place d d' deq at.0 at'.0) (maybe_one_place enq e e' at.1 at'.1)
@@ -152,23 +152,23 @@ module _ (initial : List ℕ) (operations : List Operation) (is_history : IsOfHi
       (one_named_cover lives cover cover' at.1 at'.1)
   one_named _ _ _ at at' = absurd assumption
 
-  -- so are those of two violations that are one
+  -- equal violations are named by the same places
   one_violation : (x y : Violation) (b c : FullViolation) → b ≡ c → Names initial operations x b → Names initial operations y c → x ≡ y
   one_violation x y b c same at at' = one_named c x y (subst (Names initial operations x) same at) at'
 
-  -- one violation is chosen
+  -- only one violation is chosen
   one_chosen : (x y : Violation) → IsChosenViolation initial operations x → IsChosenViolation initial operations y → x ≡ y
   one_chosen x y (b, names_x, chosen_x) (c, names_y, chosen_y) =
       let there = chosen_of (course initial operations) (on all) (course_on initial operations) in
       one_violation x y b c (one_chosen_violation all b c complete (there b chosen_x) (there c chosen_y)) names_x names_y
 
--- a history has one chosen violation
+-- a history has only one chosen violation
 pub chosen_violation_is_one : (initial : List ℕ) (events : List Event) (x y : Violation) → IsCompleteFrom initial events → length initial ≤ MAX_INITIAL
     → IsChosenViolation initial (operations_of events) x → IsChosenViolation initial (operations_of events) y → x ≡ y
 chosen_violation_is_one initial events x y complete few =
     one_chosen initial (operations_of events) (events, refl, complete, few) x y
 
--- a history has one verdict
+-- a history has only one verdict
 pub verdict_is_one : VerdictIsOne
 verdict_is_one initial events (Yes ps) (Yes qs) complete few x exact_x y exact_y =
     let operations = operations_of events in
@@ -189,7 +189,7 @@ verdict_is_one initial events (No v) (Yes qs) complete few x exact_x y exact_y =
 verdict_is_one initial events (No v) (No w) complete few x exact_x y exact_y =
     ap (λ named. No named) (chosen_violation_is_one initial events v w complete few x y)
 
--- a history has one answer of the matching
+-- a history has only one result of matching
 pub matched_is_one : MatchedIsOne
 matched_is_one initial operations (matched.Clear m) (matched.Clear n) complete x y = ap (λ matching. matched.Clear matching) (x.0 ∙ sym y.0)
 matched_is_one initial operations (matched.Clear m) (matched.Fresh v) complete x y = absurd (x.1.no_fresh y.0 y.1 y.3.violates)
@@ -208,7 +208,7 @@ abbrev pair_of : Violation → OrderPair
 pair_of (violation.Order a b d c) = record { enq_a = a; enq_b = b; deq_b = d; deq_a = c }
 pair_of _ = record { enq_a = source.Enq 0; enq_b = source.Enq 0; deq_b = 0; deq_a = None }
 
--- one pair is found
+-- only one pair is found
 pub pair_is_one : PairIsOne
 pair_is_one initial operations None None complete x y = refl
 pair_is_one initial operations None (Some q) complete x y = absurd (x y.a y.b y.is_chosen.violates)
@@ -223,15 +223,15 @@ pair_is_one initial operations (Some p) (Some q) complete x y =
 one_least_gap : (h : Course) (o : Operation) (c d : ℕ) → IsLeastFreeGap h o c → IsLeastFreeGap h o d → c ≡ d
 one_least_gap h o c d x y = let le = x.least d y.in_window y.is_free in let ge = y.least c x.in_window x.is_free in omega arith
 
--- a window that is covered has no free gap
+-- a covered window has no free gap
 free_or_covered : (h : Course) (o : Operation) (c : ℕ) → IsLeastFreeGap h o c → IsCovered h o → ⊥
 free_or_covered h o c free covered = let stays = covered c free.in_window in free.is_free stays.0 stays.1 stays.2
 
--- gaps at one time are one
+-- gaps with the same time are equal
 gap_told : (c d : ℕ) → time_of c ≡ time_of d → c ≡ d
 gap_told c d same = omega (arith, same)
 
--- one gap is found
+-- only one gap is found
 pub gap_is_one : GapIsOne
 gap_is_one initial operations place = one
   where
@@ -262,7 +262,7 @@ gaps_told [] [] same = refl
 gaps_told (c ∷ cs) (d ∷ ds) same = grind (arith, gaps_told cs ds)
 gaps_told _ _ same = cc
 
--- where each empty answer has a free gap, none is covered
+-- if each empty dequeue has a free gap, none is covered
 none_covered : (h : Course) (gaps : List ℕ) (o : Operation)
     → AllZip (λ o c. IsLeastFreeGap h o c) (filter is_empty_answer h.operations) gaps → Did h.operations o Empty → IsCovered h o → ⊥
 none_covered h gaps o each did covered =
@@ -271,7 +271,7 @@ none_covered h gaps o each did covered =
     let free = beside_first (λ o c. IsLeastFreeGap h o c) (filter is_empty_answer h.operations) gaps place.0 o each place.1 in
     free_or_covered h o free.0 free.2 covered
 
--- one answer of the search for covered windows is found
+-- only one result of the search for covered windows is found
 pub witness_is_one : WitnessIsOne
 witness_is_one initial operations (found.Gaps cs) (found.Gaps ds) clear x y =
     let h = course initial operations in

@@ -1,6 +1,6 @@
--- Operations that stand in a longer list at other times, in the same order: they have the violations of the list whose lines are among
--- them, and the chosen one, if its lines are. The selected values of a timeline stand on it so, since their initial ones are enqueued
--- at other times.
+-- Operations that are part of a longer list at other times, in the same order. They have those violations of the list
+-- whose lines are among them, and its chosen one, if its lines are among them. The selected values of a timeline are
+-- part of it in this way, since their initial ones are enqueued at other times.
 use Rattle.verdicts.proofs.Common.{[], ap, AreComplete, arith, Bool, call_before_return, call_by_return, call_or_never}
 use Rattle.verdicts.proofs.Common.{cases_lt, cond, Contains, Contains-append_cases, Contains-append_left}
 use Rattle.verdicts.proofs.Common.{Contains-append_right, contains_cons, Covers, dequeue_call, dequeue_of}
@@ -35,7 +35,7 @@ retimed h o = record { call = h o.call; ret = h o.ret; thread = o.thread; kind =
 abbrev pub retimed_life : (ℕ → ℕ) → Life → Life
 retimed_life h = mapped_life (retimed h)
 
--- from a time on, later times stay later
+-- from a time on, later times have later images
 abbrev pub Rises : ℕ → (ℕ → ℕ) → Type 0
 Rises low h = (a b : ℕ) → low ≤ a → a < b → h a < h b
 
@@ -63,7 +63,7 @@ module _ {low : ℕ} {h : ℕ → ℕ} (rises : Rises low h) where
         (found.0, omega (arith, found.1), found.2, found.3, found.4)
   ]
 
-  -- which of two times is the later
+  -- the order of two times is that of their images
   same_test : (a b a' b' : ℕ) → low ≤ a → low ≤ b → h a ≡ a' → h b ≡ b' → nat_lt a' b' ≡ nat_lt a b
   same_test a b a' b' from_a from_b same_a same_b = ltb_from_iff (
     λ is. below_back a b from_b (omega (arith, same_a, same_b, ltb-true a' b' is)),
@@ -77,7 +77,8 @@ times_in_range operations o complete among =
     let ordered = call_by_return operations o complete among in
     (omega arith, omega arith)
 
--- the first list is what is selected of the second, at other times; from a time on, which is none before the first list's, the times rise
+-- the first list is the selection from the second, at other times; from the earliest time of the first list on, the
+-- times rise
 pub record StandsAs (values calls : ℕ → Bool) (h : ℕ → ℕ) (low : ℕ) (xs ys : List Operation) : Type 0 where
   pub rises : Rises low h
   pub never : (h NEVER ≡ NEVER) × (low ≤ NEVER)
@@ -89,14 +90,14 @@ pub record StandsAs (values calls : ℕ → Bool) (h : ℕ → ℕ) (low : ℕ) 
   pub brings : (o : Operation) → Contains ys o → selects values calls o ≡ true → Contains xs (back o) × (retimed h (back o) ≡ o)
 
 module _ {values calls : ℕ → Bool} {h : ℕ → ℕ} {low : ℕ} {xs ys : List Operation} (stands : StandsAs values calls h low xs ys) where
-  -- all of these are selected
+  -- the operation is one of the second list, and is selected
   abbrev pub IsSelected : Operation → Type 0
   IsSelected o = Contains ys o × (selects values calls o ≡ true)
 
   abbrev pub AreSelected : List Operation → Type 0
   AreSelected listed = (o : Operation) → Contains listed o → IsSelected o
 
-  -- where a selected operation stands, and at which times
+  -- a selected operation is in the first list, at its times there
   in_part : (o : Operation) → IsSelected o → Contains xs (stands.back o)
   in_part o is = (stands.brings o is.0 is.1).0
 
@@ -106,7 +107,7 @@ module _ {values calls : ℕ → Bool} {h : ℕ → ℕ} {low : ℕ} {xs ys : Li
   returned : (o : Operation) → IsSelected o → h (stands.back o).ret ≡ o.ret
   returned o is = ap (λ (x : Operation). x.ret) (stands.brings o is.0 is.1).1
 
-  -- what stands there comes from itself
+  -- an operation of the first list comes back from its image
   pub back_there : (o : Operation) → Contains xs o → stands.back (retimed h o) ≡ o
   back_there o among =
       let at = stands.there o among in
@@ -141,15 +142,15 @@ module _ {values calls : ℕ → Bool} {h : ℕ → ℕ} {low : ℕ} {xs ys : Li
     in_range = λ x is_x. times_in_range xs (stands.back x) stands.part_complete (in_part x is_x);
   }
 
-  -- a life of these is one of the list
+  -- a life of the first list is one of the second
   pub life_there : (life : Life) → IsLife (on xs) life → IsLife (on ys) (retimed_life h life)
   life_there life is = life_carried carries_there life (λ o at. (life_lines xs life is o at).0) is
 
-  -- a violation of these is one of the list
+  -- a violation of the first list is one of the second
   pub violation_there : (full : FullViolation) → IsViolationOf (on xs) full → IsViolationOf (on ys) (mapped_violation (retimed h) full)
   violation_there full is = violation_carried carries_there full (lines_are_operations xs full is) is
 
-  -- and one of the list whose lines are selected is one of these
+  -- a violation of the second list whose lines are selected is one of the first
   pub violation_back : (full : FullViolation) → AreSelected (lines_of full) → IsViolationOf (on ys) full → IsViolationOf (on xs) (mapped_violation stands.back full)
   violation_back = violation_carried carries_back
 
@@ -162,9 +163,9 @@ module _ {values calls : ℕ → Bool} {h : ℕ → ℕ} {low : ℕ} {xs ys : Li
   pub no_order_back : NoOrderViolation (on ys) → NoOrderViolation (on xs)
   no_order_back none a b is = none (retimed_life h a) (retimed_life h b) (violation_there (order a b) is)
 
-  -- ---- the choice
+  -- ---- the chosen violation
 
-  -- the call of an operation that may be missing, there and here
+  -- the call of an optional operation, and its image
   calls_there : (d : Option Operation) → h (call_or_never d) ≡ call_or_never (option_map (retimed h) d)
   calls_there None = stands.never.0
   calls_there (Some d) = refl
@@ -187,7 +188,7 @@ module _ {values calls : ℕ → Bool} {h : ℕ → ℕ} {low : ℕ} {xs ys : Li
             (stays.1 (sym other ∙ ap h same ∙ own.0)),
       )
 
-  -- a value that is dequeued no later there is dequeued no later here
+  -- a value that is dequeued no later in the second list is dequeued no later in the first
   sooner_back : (x y : Life) → AreSelected (operations_of_life x) → dequeue_call x < NEVER → IsLife (on xs) y → dequeue_call y < NEVER
       → dequeue_return x ≤ dequeue_return (retimed_life h y) → dequeue_return (mapped_life stands.back x) ≤ dequeue_return y
   sooner_back x y are called_x is_y called_y le =
@@ -201,7 +202,7 @@ module _ {values calls : ℕ → Bool} {h : ℕ → ℕ} {low : ℕ} {xs ys : Li
       let later = no_later d e own (did_dequeue xs y e is_y at_y).0 (omega arith) in
       omega arith
 
-  -- a life whose operations are selected is the image of its own
+  -- a life whose operations are selected is the image of its own in the first list
   brought_life : (life : Life) → AreSelected (operations_of_life life) → retimed_life h (mapped_life stands.back life) ≡ life
   brought_life life are =
       let first = are (enqueue_of life) (zero, omega arith, refl) in
@@ -213,7 +214,7 @@ module _ {values calls : ℕ → Bool} {h : ℕ → ℕ} {low : ℕ} {xs ys : Li
       brought None are = refl
       brought (Some d) are = let is = are d (zero, omega arith, refl) in ap (λ o. Some o) (stands.brings d is.0 is.1).1
 
-  -- at each gap of a covered window some life of these is definitely in the queue
+  -- at each gap of a covered window, a life of the first list is definitely in the queue
   pub covered_by : (o : Operation) → Contains xs o → IsCovered (on xs) o → (c : ℕ) → IsInWindow (retimed h o) c
       → (z : Life) × IsLife (on xs) z × Covers (retimed_life h z) c
   covered_by o among covered c window =
@@ -252,7 +253,7 @@ module _ {values calls : ℕ → Bool} {h : ℕ → ℕ} {low : ℕ} {xs ys : Li
       dequeue : (h (dequeue_call (mapped_life stands.back life)) ≡ dequeue_call life) × (low ≤ dequeue_call (mapped_life stands.back life))
       dequeue = calls_back (dequeue_of life) (λ o at. own o (one_deeper (enqueue_of life) (option_to_list (dequeue_of life)) o at))
 
-  -- the chosen violation of the list is the chosen one of these, if its lines are selected
+  -- the chosen violation of the second list is chosen in the first, if its lines are selected
   pub chosen_back : (full : FullViolation) → AreSelected (lines_of full) → IsChosenFullViolation (on ys) full
       → IsChosenFullViolation (on xs) (mapped_violation stands.back full)
   chosen_back (fresh deq enq) are chosen = record {
@@ -321,7 +322,7 @@ brought_back f (x ∷ xs) o among = pick (nat_eq (f x).call o.call) refl (brough
       | inr later ↦ let found = more later in (one_deeper x xs (brought f xs o) found.0, found.1)
     ]
 
--- what is selected of a list, if it is another list at later times
+-- a selection that is another list at later times
 pub selected_stands : (values calls : ℕ → Bool) (h : ℕ → ℕ) (low : ℕ) (xs ys : List Operation) → Rises low h → (h NEVER ≡ NEVER) × (low ≤ NEVER)
     → AreLate low xs → AreComplete xs → AreComplete ys → filter (selects values calls) ys ≡ map (retimed h) xs → StandsAs values calls h low xs ys
 selected_stands values calls h low xs ys rises never late part_complete complete same = record {
@@ -343,25 +344,25 @@ selected_stands values calls h low xs ys rises never late part_complete complete
 
 -- ---- times
 
--- the time on the timeline of what stands at a time of the selection's, on which the enqueues of the values that are left out are missing
+-- the time in the timeline of what has this time in the selection's, which lacks the enqueues of the values left out
 abbrev pub lifted : (ℕ → Bool) → List ℕ → ℕ → ℕ
 lifted keeps [] t = t
 lifted keeps (v ∷ rest) t = cond (nat_lt t (ORIGIN - length (filter keeps rest))) (ORIGIN - length (v ∷ rest)) (lifted keeps rest t)
 
--- the time of the first of this many initial values
+-- the time of the first initial value
 abbrev pub start : List ℕ → ℕ
 start initial = ORIGIN - length initial
 
--- no initial values are more than come before the first ticket
+-- there are no more initial values than come before the first ticket
 abbrev AreFew : List ℕ → Type 0
 AreFew initial = length initial ≤ MAX_INITIAL
 
--- from the first of the values on they aren't before the first of all
+-- no time from the first kept value on is before the first value
 lifted_from : (keeps : ℕ → Bool) (initial : List ℕ) (t : ℕ) → start (filter keeps initial) ≤ t → start initial ≤ lifted keeps initial t
 lifted_from keeps [] t from = from
 lifted_from keeps (v ∷ rest) t from = grind (arith, nat_tests, lifted_from keeps rest t)
 
--- the value that is kept, if it is, comes just before the others
+-- a kept value comes just before the others
 first_kept : (kept : Bool) (v : ℕ) (others : List ℕ) (t : ℕ) → start (cond kept (v ∷ others) others) ≤ t → start others ≤ t + 1
 first_kept true v others t from = omega arith
 first_kept false v others t from = omega arith
@@ -377,7 +378,7 @@ pub lifted_late : (keeps : ℕ → Bool) (initial : List ℕ) (t : ℕ) → ORIG
 lifted_late keeps [] t late = refl
 lifted_late keeps (v ∷ rest) t late = grind (arith, nat_tests, lifted_late keeps rest t late)
 
--- nothing on a timeline comes before the first initial value
+-- no operation of a timeline is before the first initial value
 pub timeline_late : (initial : List ℕ) (operations : List Operation) → AreLate (start initial) (timeline initial operations)
 timeline_late initial operations o among =
     elim (Contains-append_cases (initial_enqueues initial) (map (later_by ORIGIN) operations) o among) [
@@ -393,9 +394,9 @@ timeline_late initial operations o among =
           (omega arith, omega arith)
     ]
 
--- ---- one value more
+-- ---- one more value
 
--- what agrees at each element of a list is mapped to one list
+-- functions that agree on each element map a list to the same list
 pub map_agree : {X Y : Type 0} (f g : X → Y) (xs : List X) → ((x : X) → Contains xs x → f x ≡ g x) → map f xs ≡ map g xs
 map_agree f g [] same = refl
 map_agree f g (x ∷ xs) same =
@@ -416,11 +417,11 @@ timeline_cons v values operations few =
 
 -- ---- selections
 
--- the selected operations, by their calls on the timeline
+-- the selected operations, by their calls in the timeline
 abbrev pub selected_behind : (ℕ → Bool) → (ℕ → Bool) → List Operation → List Operation
 selected_behind values calls operations = filter (selects values (λ call. calls (call + ORIGIN))) operations
 
--- what is selected of a timeline is a timeline, at other times
+-- a selection from a timeline is a timeline at other times
 pub selected_of_timeline : (values calls : ℕ → Bool) (initial : List ℕ) (operations : List Operation) → AreFew initial
     → filter (selects values calls) (timeline initial operations)
     ≡ map (retimed (lifted values initial)) (timeline (filter values initial) (selected_behind values calls operations))
@@ -477,7 +478,7 @@ first_line (repeat enq first second) = (enq, (zero, omega arith, refl))
 first_line (order a b) = (enqueue_of a, (zero, omega arith, refl))
 first_line (witness empty cover) = (empty, (zero, omega arith, refl))
 
--- two different values are out of order
+-- the two values of an order violation are different
 not_itself : (operations : List Operation) (a b : Life) (is : IsOrderViolation (on operations) a b) → AreComplete operations → is.is_a.0 ≡ is.is_b.0 → ⊥
 not_itself operations a b is complete same =
     let one = same_enqueue operations (enqueue_of a) (enqueue_of b) is.is_b.0 complete (subst (λ v. Did operations (enqueue_of a) (Enq v)) same is.is_a.1)
@@ -486,7 +487,7 @@ not_itself operations a b is complete same =
     let returns = ap (λ o. o.ret) one in
     absurd (omega (arith, is.overtakes.0))
 
--- an operation that is left out of these, and with it all of its value
+-- an operation that is left out, and with it all operations of its value
 module _ {values calls : ℕ → Bool} {h : ℕ → ℕ} {low : ℕ} {xs ys : List Operation} (stands : StandsAs values calls h low xs ys)
     (missing : Operation) (was : Contains ys missing) (left_out : selects values calls missing ≡ false) where
   none_of_its_value : (o : Operation) (v : ℕ) → HasValue missing v → HasValue o v → Contains xs o → ⊥
@@ -495,14 +496,14 @@ module _ {values calls : ℕ → Bool} {h : ℕ → ℕ} {low : ℕ} {xs ys : Li
       let clash : true ≡ false = there ∙ sym (selects_as_value values calls missing v is_missing) ∙ left_out in
       cc
 
-  -- where all are of one value, nothing is left
+  -- if all operations have one value, none is left
   nothing_left : (v : ℕ) → ((o : Operation) → Contains ys o → HasValue o v) → (full : FullViolation) → IsViolationOf (on xs) full → ⊥
   nothing_left v all full is =
       let first = first_line full in
       let among = lines_are_operations xs full is first.0 first.1 in
       none_of_its_value first.0 v (all missing was) (all (retimed h first.0) (stands.there first.0 among).0) among
 
-  -- where all are of two values, one is left, which isn't out of order with itself
+  -- if all operations have one of two values, one value is left, which isn't out of order with itself
   no_order : (m n : ℕ) → HasValue missing m → ((o : Operation) → Contains ys o → HasValue o m ⊎ HasValue o n)
       → (a b : Life) → IsOrderViolation (on xs) a b → ⊥
   no_order m n is_missing of_two a b is =
@@ -524,7 +525,7 @@ module _ {values calls : ℕ → Bool} {h : ℕ → ℕ} {low : ℕ} {xs ys : Li
       | inr later ↦ inr (cover_lines ys cover (λ life among. chosen_are_lives ys empty cover empty.call life chosen.cover_is_chosen among) l later)
     ]
 
-    -- the one operation without a value is the empty answer
+    -- the only operation without a value is the empty dequeue
     is_the_empty_answer : (o : Operation) → Contains ys o → value_of o.kind ≡ None → o ≡ empty
     is_the_empty_answer o among none =
         let line = are o among in
@@ -533,7 +534,7 @@ module _ {values calls : ℕ → Bool} {h : ℕ → ℕ} {low : ℕ} {xs ys : Li
           | inr of_life ↦ let clash : None ≡ Some of_life.is_life.0 = sym none ∙ sym line.1.same_value ∙ of_life.is_of.1 in cc
         ]
 
-    -- the others have values of the cover
+    -- the other operations have values of the cover
     has_value_of_cover : (o : Operation) (v : ℕ) → Contains ys o → HasValue o v
         → (life : Life) × Contains cover life × Did ys (enqueue_of life) (Enq v)
     has_value_of_cover o v among is =
@@ -546,7 +547,7 @@ module _ {values calls : ℕ → Bool} {h : ℕ → ℕ} {low : ℕ} {xs ys : Li
               (of_life.life, of_life.among, subst (λ w. Did ys (enqueue_of of_life.life) (Enq w)) values_same of_life.is_life.1)
         ]
 
-    -- the value that is left out was the only one at some gap
+    -- the value that is left out was the only one in the queue at some gap
     not_covered_without : (v : ℕ) → HasValue missing v → (o : Operation) → Contains xs o → retimed h o ≡ empty → IsCovered (on xs) o → ⊥
     not_covered_without v is_missing o among same covered =
         let x = has_value_of_cover missing v was is_missing in
@@ -580,7 +581,7 @@ module _ {values calls : ℕ → Bool} {h : ℕ → ℕ} {low : ℕ} {xs ys : Li
             let clash : true ≡ false = sym at.1 ∙ ap (selects values calls) one ∙ left_out in
             cc
 
-  -- so what is left has no violation
+  -- so the operations that are left have no violation
   pub none_is_left : (full : FullViolation) → IsChosenFullViolation (on ys) full → AreFor (lines_of full) ys → (other : FullViolation)
       → IsViolationOf (on xs) other → ⊥
   none_is_left (fresh deq enq) chosen are other is = let lines = fresh_lines ys deq enq chosen.violates in

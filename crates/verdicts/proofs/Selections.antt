@@ -1,5 +1,5 @@
--- What is carried from one list of operations to another, each operation by its image: lives, covers and violations. A chosen cover
--- is a shortest one.
+-- Lives, covers and violations carried from one list of operations to another by mapping each operation. A chosen
+-- cover is a shortest one.
 use Rattle.verdicts.proofs.Common.{[], All, All-contains, All-filter, all_formed, AllPairs, AllPairs-cons}
 use Rattle.verdicts.proofs.Common.{AllPairs-filter, AllPairs-tail, AllZip-long, answers, Any-from_list_any, ap, ap₂}
 use Rattle.verdicts.proofs.Common.{AreComplete, AreDistinct, arith, Bool, call_or_never, called_value}
@@ -27,11 +27,11 @@ use Rattle.std.proofs.lemmas.Bool.Decides.{same_from_decides}
 use Rattle.history_merge.proofs.Lists.{no_longer}
 use Rattle.value_match.specs.declared.violation.Violation.TheVariants as violation
 
--- the operations of a life, each by its image
+-- a life with its operations mapped
 abbrev pub mapped_life : (Operation → Operation) → Life → Life
 mapped_life g life = record { enqueue = g (enqueue_of life); dequeue = option_map g (dequeue_of life) }
 
--- those of a violation
+-- a violation with its operations mapped
 abbrev pub mapped_violation : (Operation → Operation) → FullViolation → FullViolation
 mapped_violation g (fresh deq enq) = fresh (g deq) (option_map g enq)
 mapped_violation g (repeat enq first second) = repeat (g enq) (g first) (g second)
@@ -50,7 +50,7 @@ module _ (g : Operation → Operation) where
       ∙ ap (λ os. map g (operations_of_life life) ++ os) (cover_lines cover)
       ∙ sym (map-append g (operations_of_life life) (flat_map operations_of_life cover))
 
-  -- the lines of a violation by its images are the images of its lines
+  -- the lines of a mapped violation are the mapped lines
   pub mapped_lines : (full : FullViolation) → lines_of (mapped_violation g full) ≡ map g (lines_of full)
   mapped_lines (fresh deq enq) = ap (λ os. g deq ∷ os) (maybe_line enq)
   mapped_lines (repeat enq first second) = refl
@@ -60,20 +60,21 @@ module _ (g : Operation → Operation) where
       ∙ sym (map-append g (option_to_list (dequeue_of b)) (option_to_list (dequeue_of a))))
   mapped_lines (witness empty cover) = ap (λ os. g empty ∷ os) (cover_lines cover)
 
-  -- and its kind is the same
+  -- a mapped violation has the same kind
   pub mapped_kind : (full : FullViolation) → kind_of (mapped_violation g full) ≡ kind_of full
   mapped_kind (fresh deq enq) = refl
   mapped_kind (repeat enq first second) = refl
   mapped_kind (order a b) = refl
   mapped_kind (witness empty cover) = refl
 
--- what follows for the image of an operation, or where there is none
+-- the consequences for an optional operation and its image
 mapped_then : {P Q : Type 0} (R S : Operation → Type 0) (g : Operation → Operation) (d : Option Operation) → MatchOption d P R → (P → Q)
     → ((x : Operation) → Contains (option_to_list d) x → R x → S (g x)) → MatchOption (option_map g d) Q S
 mapped_then R S g None is none some = none is
 mapped_then R S g (Some x) is none some = some x (zero, omega arith, refl) is
 
--- each operation that is taken did the same there, in the same order, and what nobody did, of a value that somebody has, nobody did there
+-- each taken operation has an image of the same kind, in the same order; a kind that no operation has, with a value
+-- that one has, has none among the images
 pub record Carries (from to : List Operation) (g : Operation → Operation) (IsTaken : Operation → Type 0) : Type 0 where
   pub did : (o : Operation) (kind : OpKind) → IsTaken o → Did from o kind → Did to (g o) kind
   pub none_did : (o : Operation) (v : ℕ) (own kind : OpKind) → Did from o own → value_of own ≡ Some v → value_of kind ≡ Some v
@@ -83,11 +84,11 @@ pub record Carries (from to : List Operation) (g : Operation → Operation) (IsT
   pub in_range : (x : Operation) → IsTaken x → ((g x).call < NEVER) × ((g x).ret < NEVER)
 
 module _ {from to : List Operation} {g : Operation → Operation} {IsTaken : Operation → Type 0} (c : Carries from to g IsTaken) where
-  -- all of these are taken
+  -- all listed operations are taken
   abbrev AreTaken : List Operation → Type 0
   AreTaken listed = (o : Operation) → Contains listed o → IsTaken o
 
-  -- a life is one there
+  -- a life is carried over
   pub life_carried : (life : Life) → AreTaken (operations_of_life life) → IsLife (on from) life → IsLife (on to) (mapped_life g life)
   life_carried life taken is = (
     is.0,
@@ -96,13 +97,13 @@ module _ {from to : List Operation} {g : Operation → Operation} {IsTaken : Ope
         (λ d at. c.did d (Deq is.0) (taken d (one_deeper (enqueue_of life) (option_to_list (dequeue_of life)) d at))),
   )
 
-  -- what returns before a call, if there is one, does so there
+  -- an operation that returns before an optional call does so after mapping
   before_call : (x : Operation) (d : Option Operation) → IsTaken x → AreTaken (option_to_list d) → x.ret < call_or_never d
       → (g x).ret < call_or_never (option_map g d)
   before_call x None is_x are less = (c.in_range x is_x).1
   before_call x (Some d) is_x are less = c.precedes x d is_x (are d (zero, omega arith, refl)) less
 
-  -- what is dequeued before another is, or never, is so there
+  -- a value dequeued before another is, or never, is so after mapping
   left_before : (x d : Option Operation) → AreTaken (option_to_list x) → AreTaken (option_to_list d) → call_or_never x < NEVER
       → return_or_never x < call_or_never d → return_or_never (option_map g x) < call_or_never (option_map g d)
   left_before None d are_x are called less = absurd (omega arith)
@@ -133,7 +134,7 @@ module _ {from to : List Operation} {g : Operation → Operation} {IsTaken : Ope
             (λ o later. taken o (Contains-append_right (operations_of_life life) (flat_map operations_of_life (next ∷ rest)) o later)) covers.3,
       )
 
-  -- a violation is one there
+  -- a violation is carried over
   pub violation_carried : (full : FullViolation) → AreTaken (lines_of full) → IsViolationOf (on from) full → IsViolationOf (on to) (mapped_violation g full)
   violation_carried (fresh deq enq) taken is =
       let first = taken deq (zero, omega arith, refl) in
@@ -203,17 +204,17 @@ has_shortest_cover initial operations (violation.Witness place steps) (witness e
 has_shortest_cover initial operations (violation.Witness place steps) (_, names', chosen) (witness empty cover) names = absurd names'
 has_shortest_cover initial operations _ chosen (witness empty cover) names = absurd names
 
--- two filters may change places
+-- two filters commute
 pub filters_swap : {X : Type 0} (p q : X → Bool) (xs : List X) → filter p (filter q xs) ≡ filter q (filter p xs)
 filters_swap p q [] = refl
 filters_swap p q (x ∷ xs) = grind (arith, filters_swap p q xs)
 
--- what is found among all is found among what is kept, if it is kept
+-- an element found in the whole list is found in the kept part, if it is kept
 find_kept : {X : Type 0} (p keeps : X → Bool) (xs : List X) (r : X) → find p xs ≡ Some r → keeps r ≡ true → find p (filter keeps xs) ≡ Some r
 find_kept p keeps [] r found is = cc
 find_kept p keeps (x ∷ xs) r found is = grind (arith, find_kept p keeps xs r)
 
--- and what isn't found among all isn't found among these
+-- if no element is found in the whole list, none is found in a part
 find_none_kept : {X : Type 0} (p keeps : X → Bool) (xs : List X) → find p xs ≡ None → find p (filter keeps xs) ≡ None
 find_none_kept p keeps [] none = none
 find_none_kept p keeps (x ∷ xs) none = grind (arith, find_none_kept p keeps xs)
@@ -226,7 +227,7 @@ module _ (keeps : ℕ → Bool) (test : Operation → Bool) where
   abbrev kept_events : List Event → List Event
   kept_events events = filter (λ e. keeps e.ticket) events
 
-  -- the operations of the kept events are the operations that pass
+  -- the operations of the kept events are those that pass the test
   kept_operations : (events : List Event) → KeepsBoth keeps test (operations_so_far events)
       → operations_so_far (kept_events events) ≡ filter test (operations_so_far events)
   kept_operations [] both = refl
@@ -247,7 +248,7 @@ module _ (keeps : ℕ → Bool) (test : Operation → Bool) where
           let more = rest (λ o among. both' o (one_deeper (operation_so_far e (Some a)) (operations_so_far later) o among)) in
           grind (arith, find_kept (λ r. nat_eq r.thread e.thread) (λ r. keeps r.ticket) later a found)
 
-  -- where a call is kept as its return is, what is kept takes turns
+  -- kept events take turns if each call is kept together with its return
   kept_turns : (events : List Event) → TakesTurns events
       → ((before : List Event) (c a : Event) (rest : List Event) → events ≡ before ++ c ∷ a ∷ rest → IsTrue (answers c.what a.what)
       → keeps c.ticket ≡ keeps a.ticket) → TakesTurns (kept_events events)
@@ -262,7 +263,7 @@ module _ (keeps : ℕ → Bool) (test : Operation → Bool) where
       pick false false same more = more
       pick _ _ same more = cc
 
--- a call and the return that follows it in its thread are an operation
+-- a call and the return that follows it in its thread make an operation
 made_in : (thread : ℕ) (events before : List Event) (c a : Event) (rest : List Event) → projection thread events ≡ before ++ c ∷ a ∷ rest
     → IsTrue (answers c.what a.what) → Contains (operations_so_far events) (operation_so_far c (Some a))
 made_in thread [] [] c a rest same is = cc
@@ -293,7 +294,7 @@ made_in thread (e ∷ later) before c a rest same is =
         let calls : is_call e.what ≡ true = ap (λ (x : Event). is_call x.what) here ∙ answered_is_call c.what a.what is in
         rw calls (zero, omega arith, ap (operation_so_far e) found ∙ ap (λ (x : Event). operation_so_far x (Some a)) here)
 
--- what holds of all values of a list holds of those of its kept elements
+-- a fact about all values of a list holds of those of its kept elements
 All-kept : {X Y : Type 0} (P : Y → Type 0) (f : X → Option Y) (keeps : X → Bool) (xs : List X) → All P (filter_map f xs)
     → All P (filter_map f (filter keeps xs))
 All-kept P f passes xs all k d below =
@@ -319,7 +320,7 @@ AllPairs-kept {X} {Y} R f keeps (x ∷ xs) pairs = pick (f x) refl (keeps x) pai
         rw is (AllPairs-cons R y (filter_map f (filter keeps xs)) (All-kept (R y) f keeps xs (pairs_after_first R y (filter_map f xs) pairs'))
         (rest (AllPairs-tail R y (filter_map f xs) pairs')))
 
--- where both events of an operation are kept, or neither, the kept events are a complete history
+-- the kept events are a complete history if each operation keeps both of its events or neither
 pub kept_is_complete : (keeps : ℕ → Bool) (test : Operation → Bool) (events : List Event) → IsCompleteHistory events
     → KeepsBoth keeps test (operations_so_far events) → IsCompleteHistory (filter (λ e. keeps e.ticket) events)
 kept_is_complete keeps test events complete both = record {
@@ -332,7 +333,7 @@ kept_is_complete keeps test events complete both = record {
   values_are_distinct = AllPairs-kept (λ v w. v ≢ w) (λ e. called_value e.what) (λ e. keeps e.ticket) events complete.values_are_distinct;
 }
 
--- a ticket is held where it is that of a call or a return
+-- the ticket of a call or a return is held
 held : (operations : List Operation) (o : Operation) (ticket : ℕ) → Contains operations o → (o.call ≡ ticket) ⊎ (o.ret ≡ ticket)
     → holds_ticket operations ticket ≡ true
 held operations o ticket among is =
@@ -346,7 +347,7 @@ holder operations ticket holds =
     (found.1, (found.0, found.2, found.3), grind (arith, nat_tests))
 
 module _ (operations : List Operation) (complete : AreComplete operations) (test : Operation → Bool) where
-  -- who holds a ticket of an operation is that operation
+  -- each ticket belongs to one operation
   one_holder : (x o : Operation) (ticket : ℕ) → Contains operations x → Contains operations o → (x.call ≡ ticket) ⊎ (x.ret ≡ ticket)
       → (o.call ≡ ticket) ⊎ (o.ret ≡ ticket) → x ≡ o
   one_holder x o ticket in_x in_o (inl is_x) (inl is_o) = same_call operations x o complete in_x in_o (is_x ∙ sym is_o)
@@ -364,7 +365,7 @@ module _ (operations : List Operation) (complete : AreComplete operations) (test
     λ passes. held (filter test operations) o ticket (passes_filter test operations o passes among) is,
   ) (λ passes. passes, λ passes. passes)
 
-  -- the tickets of an operation that passes are kept, both, and of no other
+  -- exactly the tickets of operations that pass are kept
   pub tickets_keep_both : KeepsBoth (holds_ticket (filter test operations)) test operations
   tickets_keep_both o among = (held_as_tested o o.call among (inl refl), held_as_tested o o.ret among (inr refl))
 
@@ -387,7 +388,7 @@ module _ (test : Operation → Bool) (events : List Event) (complete : IsComplet
       sym (all_formed (events_at_tickets_of (filter test (operations_of events)) events) selected_events_are_complete)
       ∙ kept_operations (holds_ticket (filter test (operations_of events))) test events keep_both ∙ ap (filter test) (all_formed events complete)
 
--- some of the values before others that are among those that stood there
+-- values stay distinct when some of those before, and some of those after, are left out
 distinct_kept : (p : ℕ → Bool) (initial calls fewer : List ℕ) → AreDistinct (initial ++ calls) → AreDistinct fewer
     → ((v : ℕ) → Contains fewer v → Contains calls v) → AreDistinct (filter p initial ++ fewer)
 distinct_kept p [] calls fewer distinct others among = others
@@ -434,7 +435,7 @@ module _ (initial : List ℕ) (events : List Event) (whole : IsCompleteFrom init
           let passed = passed_filter _ events found.0 found.1 in
           keeps (λ (e : Event). called_value e.what) events found.0 v passed.0 found.2
 
-  -- what is timeline with the selected values is complete
+  -- the timeline of the selected values and operations is complete
   pub kept_timeline_are_complete : length initial ≤ MAX_INITIAL → AreComplete (timeline (filter values initial) (filter test (operations_of events)))
   kept_timeline_are_complete few =
       let shorter = no_longer values initial in

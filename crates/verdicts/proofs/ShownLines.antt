@@ -35,7 +35,7 @@ module _ (initial : List ℕ) (operations : List Operation) (few : length initia
     is : initial_enqueue k place value ≡ o
     line : line_of o ≡ Initial value
 
-  -- or one of the history, later
+  -- the operation is one of the history, moved later
   record IsOperationLine (o : Operation) : Type 0 where
     operation : Operation
     among : Contains operations operation
@@ -63,7 +63,7 @@ module _ (initial : List ℕ) (operations : List Operation) (few : length initia
         })
       ]
 
-  -- what did something stands for an operation that did it
+  -- a line of this kind stands for an operation of the kind
   stood_for : (l : ClaimLine) (kind : OpKind) → LineDid initial operations l kind
       → (o : Operation) × StandsFor initial operations l o × (o.kind ≡ kind)
   stood_for (Op x) kind did = (
@@ -82,7 +82,7 @@ module _ (initial : List ℕ) (operations : List Operation) (few : length initia
         sym is,
       )
 
-  -- and the line did what it stands for
+  -- a line is of the kind of the operation that it stands for
   line_did : (l : ClaimLine) (o : Operation) (kind : OpKind) → StandsFor initial operations l o → o.kind ≡ kind → LineDid initial operations l kind
   line_did l o kind (among, same) is = elim (line_told o among) [
     | inl early ↦ subst (λ m. LineDid initial operations m kind) (sym early.line ∙ same)
@@ -90,7 +90,7 @@ module _ (initial : List ℕ) (operations : List Operation) (few : length initia
     | inr late ↦ subst (λ m. LineDid initial operations m kind) (sym late.line ∙ same) (late.among, ap (λ (x : Operation). x.kind) late.is ∙ is)
   ]
 
-  -- nothing of the timeline did what no line did
+  -- no operation of the timeline is of a kind if and only if no line is
   pub none_exactly : (kind : OpKind) → NoneDid all kind ↔ NoLineDid initial operations kind
   none_exactly kind = (
     λ none l did. let s = stood_for l kind did in none s.0 s.1.0 s.2,
@@ -114,7 +114,7 @@ module _ (initial : List ℕ) (operations : List Operation) (few : length initia
           subst (λ n. (o.ret < p.ret) ↔ ReturnsFirst n m) (sym x.line ∙ is_l)
           (subst (λ n. (o.ret < p.ret) ↔ ReturnsFirst (Op x.operation) n) (sym y.line ∙ is_m) (λ less. omega arith, λ less. omega arith))
 
-  -- lines precede each other as what they stand for
+  -- lines precede each other as their operations do
   line_precedes : (l m : ClaimLine) (o p : Operation) → StandsFor initial operations l o → StandsFor initial operations m p → o.ret < p.call
       → LinePrecedes initial l m
   line_precedes l m o p (in_o, is_l) (in_p, is_m) less = by_told (line_told o in_o) (line_told p in_p)
@@ -138,7 +138,7 @@ module _ (initial : List ℕ) (operations : List Operation) (few : length initia
           let call : y.operation.call + ORIGIN ≡ p.call = ap (λ (z : Operation). z.call) y.is in
           lines (Op x.operation) (Op y.operation) x.line y.line (omega arith)
 
-  -- ---- what a violation of the timeline shows
+  -- ---- from a violation of the timeline to lines that show it
 
   abbrev AreFor : List ClaimLine → List Operation → Type 0
   AreFor lines listed = AllZip (StandsFor initial operations) lines listed
@@ -255,10 +255,10 @@ module _ (initial : List ℕ) (operations : List Operation) (few : length initia
   violation_shows (repeat x y z) (l ∷ m ∷ n ∷ p ∷ lines) each is = absurd each.1.1.1
   violation_shows (witness o cover) [] each is = absurd each
 
-  -- ---- the violation that lines show
+  -- ---- from lines that show a violation to the violation
 
   module _ (complete : AreComplete all) where
-    -- what a line stands for that precedes another returns before that is called
+    -- the operation of a line that precedes another returns before that of the other is called
     precedes_line : (l m : ClaimLine) (o p : Operation) → StandsFor initial operations l o → StandsFor initial operations m p → LinePrecedes initial l m
         → o.ret < p.call
     precedes_line l m o p (in_o, is_l) (in_p, is_m) before = by_told (line_told o in_o) (line_told p in_p)
@@ -292,7 +292,7 @@ module _ (initial : List ℕ) (operations : List Operation) (few : length initia
             let call : y.operation.call + ORIGIN ≡ p.call = ap (λ (z : Operation). z.call) y.is in
             omega arith
 
-    -- a violation of this kind, of which these are the lines
+    -- a violation of this kind with these lines
     pub record IsShown (kind : ViolationKind) (lines : List ClaimLine) : Type 0 where
       pub full : FullViolation
       pub same_kind : kind_of full ≡ kind
@@ -341,7 +341,7 @@ module _ (initial : List ℕ) (operations : List Operation) (few : length initia
         with_first life is enters called [] covers = absurd covers
         with_first life is enters called (next ∷ rest) covers = (is, enters, called, covers)
 
-    -- lines that show a violation are those of one
+    -- lines that show a violation are the lines of one
     pub shown_violation : (kind : ViolationKind) (lines : List ClaimLine) → Shows initial operations kind lines → IsShown kind lines
     shown_violation VFresh (l ∷ []) (v, did, not_accepted, not_refused) =
         let (d, at, is) = stood_for l (Deq v) did in record {

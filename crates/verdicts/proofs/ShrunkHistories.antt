@@ -1,4 +1,5 @@
--- The selection by the lines of the chosen violation of a history: the same violation is its chosen one, and nothing can be left out.
+-- The selection by the lines of the chosen violation of a history: its chosen violation is the same, and nothing can
+-- be left out.
 use Rattle.verdicts.proofs.Common.{ap, AreComplete, AreLinearizable, ArePartOf, arith, Bool, call_by_return, call_in}
 use Rattle.verdicts.proofs.Common.{cases_lt, chosen_of, ClaimLine, Contains, Contains-append_cases}
 use Rattle.verdicts.proofs.Common.{Contains-append_left, Contains-append_right, Contents, contents_of, Course, course}
@@ -29,7 +30,7 @@ use Rattle.verdicts.proofs.TrueClaims.{same_kind}
 use Rattle.claims.specs.declared.claimed.ClaimLine.TheVariants.{Initial}
 use Rattle.claims.specs.declared.claimed.Claimed.TheVariants as claimed
 
--- the empty answers of a selection, by their calls on the timeline
+-- the selected empty dequeues, by their calls in the timeline
 abbrev pub calls_behind : (ℕ → Bool) → ℕ → Bool
 calls_behind empties call = empties (call - ORIGIN)
 
@@ -46,11 +47,11 @@ timeline_of_history history = timeline history.initial (operations_of history.ev
 abbrev pub course_of_history : HistoryView → Course
 course_of_history history = course history.initial (operations_of history.events)
 
--- the timeline of a complete one is complete
+-- the timeline of a complete history is complete
 pub timeline_is_whole : (history : HistoryView) → IsWhole history → AreComplete (timeline_of_history history)
 timeline_is_whole history is = timeline_is_complete history.initial history.events is.complete is.few
 
--- what is called before the time of ticket 0 is a successful enqueue
+-- an operation called before the time of ticket 0 is a successful enqueue
 pub among_enqueues : (whole : HistoryView) (o : Operation) → Contains (timeline_of_history whole) o → o.call < ORIGIN
     → (v : ℕ) × (o.kind ≡ Enq v)
 among_enqueues whole o among early =
@@ -68,7 +69,7 @@ module _ (whole : HistoryView) (values empties : ℕ → Bool) where
   call_behind : (o : Operation) → selects values (calls_behind empties) (later_by ORIGIN o) ≡ selects values empties o
   call_behind o = ap (λ call. option_map_or values (value_of o.kind) (empties call)) (let e : o.call + ORIGIN - ORIGIN ≡ o.call = omega arith in e)
 
-  -- a selection stands on the timeline, at other times
+  -- a selection is part of the timeline, at other times
   pub part_stands : (part : Contents) → part ≡ select values empties (contents_of whole) → IsWhole whole → StandsAs values (calls_behind empties)
       (lifted values whole.initial) (start part.initial) (timeline part.initial part.operations) (timeline_of_history whole)
   part_stands part same is = subst (λ c. StandsAs values (calls_behind empties) (lifted values whole.initial) (start c.initial)
@@ -81,7 +82,7 @@ module _ (whole : HistoryView) (values empties : ℕ → Bool) where
       ∙ ap (λ os. map (retimed (lifted values whole.initial)) (timeline (filter values whole.initial) os))
       (filter_agree (selects values (λ call. calls_behind empties (call + ORIGIN))) (selects values empties) call_behind (operations_of whole.events))))
 
-  -- a selection that isn't the whole leaves out an operation of the timeline
+  -- a selection other than the whole leaves out an operation of the timeline
   pub one_missing : select values empties (contents_of whole) ≢ contents_of whole
       → (o : Operation) × Contains (timeline_of_history whole) o × (selects values (calls_behind empties) o ≡ false)
   one_missing differs = by_lists (all_or_one values whole.initial) (all_or_one (selects values empties) (operations_of whole.events))
@@ -144,7 +145,7 @@ module _ (whole : HistoryView) (violation : Violation) (is_whole : IsWhole whole
   value_shown : (o : Operation) → Contains (lines_of full) o → value_in (line_of o) ≡ value_of o.kind
   value_shown o among = value_of_line o (among_enqueues whole o (in_whole o among))
 
-  -- an operation without a value is no enqueue of an initial one
+  -- an operation without a value isn't the enqueue of an initial value
   called_late : (o : Operation) → Contains (timeline_of_history whole) o → value_of o.kind ≡ None → ORIGIN ≤ o.call
   called_late o among none = elim (cases_lt o.call ORIGIN) [
     | inl early ↦
@@ -154,7 +155,7 @@ module _ (whole : HistoryView) (violation : Violation) (is_whole : IsWhole whole
     | inr late ↦ late
   ]
 
-  -- each line passes
+  -- each line is selected
   lines_pass : (o : Operation) → Contains (lines_of full) o → passes o ≡ true
   lines_pass o among = by_value (value_of o.kind) refl
     where
@@ -166,7 +167,7 @@ module _ (whole : HistoryView) (violation : Violation) (is_whole : IsWhole whole
           selects_as_call values (calls_behind calls) o is ∙ (named.calls_named (o.call - ORIGIN)).1
           (keeps call_in lines (line_of o) (o.call - ORIGIN) (line_shown o among) (line_of_call o (o.call - ORIGIN) (omega arith)))
 
-  -- what passes belongs to a line
+  -- each selected operation belongs to a line
   passes_for : (o : Operation) → Contains (timeline_of_history whole) o → passes o ≡ true → (line : Operation) × IsFor (lines_of full) o line
   passes_for o among passed = by_value (value_of o.kind) refl
     where
@@ -214,7 +215,7 @@ module _ (whole : HistoryView) (violation : Violation) (is_whole : IsWhole whole
   is_violation : IsViolationOf (on (timeline_of_history small)) small_full
   is_violation = chosen_is_violation (timeline_of_history small) small_full stands.part_complete small_chosen
 
-  -- each operation belongs to a line there
+  -- each operation of the small history belongs to a line
   small_for : AreFor (lines_of small_full) (timeline_of_history small)
   small_for o among =
       let there = stands.there o among in
@@ -228,7 +229,7 @@ module _ (whole : HistoryView) (violation : Violation) (is_whole : IsWhole whole
         },
       )
 
-  -- ---- its claim
+  -- ---- the claim of the small history
 
   small_named : (found : Violation) × Names small.initial (operations_of small.events) found small_full
   small_named = violation_at small.initial (operations_of small.events) is_small.few small_full is_violation
@@ -273,7 +274,7 @@ module _ (whole : HistoryView) (violation : Violation) (is_whole : IsWhole whole
         line_there small.initial (operations_of small.events) is_small.few found.0 line found.2,
   )
 
-  -- from the small history nothing can be left out
+  -- nothing can be left out of the small history
   pub is_minimal : IsMinimal (contents_of small)
   is_minimal = (
     violation_excludes_order small.initial (operations_of small.events) small_full stands.part_complete is_violation,
@@ -284,9 +285,9 @@ module _ (whole : HistoryView) (violation : Violation) (is_whole : IsWhole whole
         (none_is_left part_of missing.0 missing.1 missing.2 small_full small_chosen small_for),
   )
 
--- ---- what is ensured of the small history
+-- ---- the guarantees of the small history
 
--- all that is ensured of it
+-- all guarantees of the small history
 pub record IsShrunk (whole : HistoryView) (violation : Violation) (small : HistoryView) : Type 0 where
   pub kept : KeepsViolation whole violation small
   pub same_violation : StaysChosen whole violation small
@@ -299,14 +300,14 @@ pub record IsShrunk (whole : HistoryView) (violation : Violation) (small : Histo
 abbrev pub selected_events : HistoryView → (ℕ → Bool) → (ℕ → Bool) → List Event
 selected_events whole values calls = filter (λ e. holds_ticket (filter (selects values calls) (operations_of whole.events)) e.ticket) whole.events
 
--- the selected initial values with them are a complete history
+-- the selected initial values with the selected events are a complete history
 pub are_complete : (whole : HistoryView) (values calls : ℕ → Bool) (initial : List ℕ) (events : List Event) → IsCompleteFrom whole.initial whole.events
     → initial ≡ filter values whole.initial → events ≡ selected_events whole values calls → IsCompleteFrom initial events
 are_complete whole values calls initial events complete has_values has_tickets =
     subst (λ vs. IsCompleteFrom vs events) (sym has_values) (subst (IsCompleteFrom (filter values whole.initial)) (sym has_tickets)
     (kept_is_complete_from whole.initial whole.events complete values (selects values calls)))
 
--- the small history is what is to be shrunk
+-- the small history has all guarantees
 pub are_shrunk : (whole : HistoryView) (violation : Violation) (values calls : ℕ → Bool) (small : HistoryView) → IsWhole whole
     → IsChosenViolation whole.initial (operations_of whole.events) violation → SelectsNamed (violation_lines whole violation) values calls
     → small.initial ≡ filter values whole.initial → small.events ≡ selected_events whole values calls → IsShrunk whole violation small
@@ -331,13 +332,13 @@ are_shrunk whole violation values calls small is_whole chosen named has_values h
       operations = (ap operations_of has_tickets ∙ operations_kept whole.initial whole.events is_whole.complete values (selects values calls)) i;
     }
 
--- ---- two minimal selections that keep one violation, the chosen one of both, are one
+-- ---- minimal selections that keep the same violation, chosen in both, are equal
 
--- claims of a `NO` that are one have the same lines
+-- equal claims of `NO` have the same lines
 one_list_of_lines : (k l : ViolationKind) (xs ys : List ClaimLine) → claimed.No k xs ≡ claimed.No l ys → xs ≡ ys
 one_list_of_lines k l xs ys same = cc
 
--- a filter keeps all, or it doesn't
+-- a filter keeps all elements, or it doesn't
 same_or_not : {X : Type 0} (p : X → Bool) (xs : List X) → (filter p xs ≡ xs) ⊎ (filter p xs ≢ xs)
 same_or_not p xs = elim (all_or_one p xs) [
   | inl all ↦ inl all
@@ -345,7 +346,7 @@ same_or_not p xs = elim (all_or_one p xs) [
       let clash : true ≡ false = sym passed ∙ one.2 in cc)
 ]
 
--- what another selection that keeps all of the violation leaves of a minimal one is the whole of it
+-- a selection from a minimal one that keeps all of the violation is the whole of it
 module _ (whole x : HistoryView) (violation : Violation) (is_x : IsWhole x) (stays : StaysChosen whole violation x) (minimal : IsMinimal (contents_of x))
     (values empties : ℕ → Bool) (kept : (line : ClaimLine) → Contains (violation_lines whole violation) line
     → Contains (lines_of_history (select values empties (contents_of whole)).initial (select values empties (contents_of whole)).operations) line) where
@@ -422,7 +423,7 @@ selections_swap values empties values' empties' whole = λ i. record {
   operations = filters_swap (selects values empties) (selects values' empties') whole.operations i;
 }
 
--- two such selections are one
+-- two such selections are equal
 pub selection_is_one : (whole x y : HistoryView) (violation : Violation) → IsWhole x → IsWhole y
     → KeepsViolation whole violation x → KeepsViolation whole violation y → StaysChosen whole violation x → StaysChosen whole violation y
     → IsMinimal (contents_of x) → IsMinimal (contents_of y) → contents_of x ≡ contents_of y

@@ -21,7 +21,7 @@ use Rattle.claims.specs.declared.claimed.Claimed.TheVariants as claimed
 use Rattle.claims.specs.declared.verdict.Verdict.TheVariants as found
 use Rattle.value_match.specs.declared.matching.Matched.TheVariants as matched
 
--- a violation and the operations that it names are of one kind
+-- a violation by places has the kind of the violation by operations
 pub same_kind : (initial : List ℕ) (operations : List Operation) (violation : Violation) (full : FullViolation) → Names initial operations violation full
     → violation_kind violation ≡ kind_of full
 same_kind initial operations (Fresh deq enq) (fresh d e) names = refl
@@ -30,7 +30,7 @@ same_kind initial operations (Order enq_a enq_b deq_b deq_a) (order a b) names =
 same_kind initial operations (Witness empty cover) (witness o lives) names = refl
 same_kind initial operations _ _ names = absurd names
 
--- what is shown is among the operations of the timeline
+-- the shown operations are among those of the timeline
 shown_among : (initial : List ℕ) (operations : List Operation) (places : List LinePlace) (listed : List Operation)
     → AllZip (IsShownAt initial operations) places listed → (o : Operation) → Contains listed o → Contains (timeline initial operations) o
 shown_among initial operations places [] each o among = absurd (not_in_none o among)
@@ -40,7 +40,7 @@ shown_among initial operations (p ∷ places) (x ∷ listed) each o among = elim
   | inr later ↦ shown_among initial operations places listed each.1 o later
 ]
 
--- the operations at places are those that stand there
+-- the operations at places are those listed
 pub operations_there : (operations : List Operation) (places : List ℕ) (listed : List Operation) → ArePlacesOf operations places listed
     → operations_at operations places ≡ listed
 operations_there operations [] [] at = refl
@@ -53,14 +53,14 @@ operations_there operations _ _ at = cc
 
 -- ---- evidence for a `NO`
 
--- operations of the timeline stand behind their lines
+-- operations of the timeline are stood for by their lines
 each_stands : (initial : List ℕ) (operations listed : List Operation) → ((o : Operation) → Contains listed o → Contains (timeline initial operations) o)
     → AllZip (StandsFor initial operations) (map line_of listed) listed
 each_stands initial operations [] among = tt
 each_stands initial operations (o ∷ listed) among =
     ((among o (zero, omega arith, refl), refl), each_stands initial operations listed (λ x later. among x (one_deeper o listed x later)))
 
--- a violation of the timeline is evidence by the places that name it
+-- a violation of the timeline is evidence, by the places that name it
 pub named_is_evidence : (initial : List ℕ) (operations : List Operation) (violation : Violation) (full : FullViolation) → length initial ≤ MAX_INITIAL
     → Names initial operations violation full → IsViolationOf (on (timeline initial operations)) full → IsEvidence initial operations (found.No violation)
 named_is_evidence initial operations violation full few names is =
@@ -80,18 +80,18 @@ shown_excludes_order initial operations kind lines complete shows =
     let shown = shown_violation initial operations (few_initial initial operations complete) complete kind lines shows in
     violation_excludes_order initial operations shown.full complete shown.violates
 
--- the claim of evidence is so
+-- the claim of evidence is true
 pub evidence_is_true : EvidenceIsTrueClaim
 evidence_is_true initial events (found.Yes places) whole few is =
     subst (IsLegalOrder initial (operations_of events)) (sym (operations_there (operations_of events) places is.0 is.1)) is.2
 evidence_is_true initial events (found.No violation) whole few is = is.1
 
--- evidence leaves no linearization
+-- evidence for a `NO` leaves no linearization
 pub evidence_excludes_order : ViolationExcludesOrder
 evidence_excludes_order initial events violation whole few is =
     shown_excludes_order initial (operations_of events) _ _ (timeline_is_complete initial events whole few) is.1
 
--- where there is none, there is one
+-- a history has a linearization if and only if there is no evidence against it
 pub linearizable_exactly : LinearizableExactly
 linearizable_exactly initial events whole few = (
   λ exists violation is. evidence_excludes_order initial events violation whole few is exists,
@@ -109,7 +109,7 @@ true_claim_decides initial events (claimed.Yes lines) complete few legal = (line
 true_claim_decides initial events (claimed.No kind lines) complete few claim =
     shown_excludes_order initial (operations_of events) kind lines (timeline_is_complete initial events complete few) claim
 
--- a chosen violation decides
+-- a chosen violation decides a history
 pub no_is_decided : (initial : List ℕ) (operations : List Operation) (violation : Violation) → IsOfHistory initial operations
     → IsChosenViolation initial operations violation → IsDecided initial operations (found.No violation)
 no_is_decided initial operations violation is_history chosen =
@@ -123,7 +123,7 @@ no_is_decided initial operations violation is_history chosen =
       places = evidence.0;
     }
 
--- what matching answers where it refuses is the chosen violation, so the `NO` is decided
+-- a violation that matching returns is the chosen one, so it decides the history
 pub refused_is_decided : (initial : List ℕ) (operations : List Operation) (answer : Matched) (violation : Violation)
     → IsOfHistory initial operations → IsMatched initial operations answer
     → (answer ≡ matched.Fresh violation) ⊎ (answer ≡ matched.Repeat violation) → IsDecided initial operations (found.No violation)
@@ -132,7 +132,7 @@ refused_is_decided initial operations answer violation is_history is refused = n
   | inr same ↦ let h = subst (IsMatched initial operations) same is in (repeat h.0 h.1 h.2, h.3, h.4)
 ])
 
--- where it finds a matching, that has neither of the first two kinds of violation
+-- a matching that is returned has neither of the first two kinds of violation
 pub matching_is_clear : (initial : List ℕ) (operations : List Operation) (answer : Matched) (matching : Contents) → IsMatched initial operations answer
     → answer ≡ matched.Clear matching → IsClear (course_of matching)
 matching_is_clear initial operations answer matching is same =

@@ -1,4 +1,4 @@
--- What is decided of a history.
+-- The verdict on a history.
 use Rattle.std.specs.Prelude.{ℕ, List}
 use Rattle.history_merge.specs.declared.operation.Operation.{Operation}
 use Rattle.claims.specs.declared.verdict.Verdict.{Verdict}

@@ -1,4 +1,4 @@
--- What a verdict says of a history, and what is evidence for it.
+-- Verdicts on a history, and evidence for them.
 use Rattle.std.specs.Prelude.{ℕ, List}
 use Rattle.history_merge.specs.declared.operation.Operation.{Operation}
 use Rattle.history_merge.specs.Legal.{IsLegalOrder, IsLinearizable, ArePlacesOf}
@@ -11,13 +11,14 @@ use Rattle.claims.specs.Claiming.{IsWithin, lines_at, violation_kind}
 use Rattle.claims.specs.Showing.{Shows}
 use Rattle.claims.specs.Shown.{violation_places}
 
--- yes with the chosen order, or no with the chosen violation
+-- `YES` with the chosen order, or `NO` with the chosen violation
 abbrev pub IsVerdict : List ℕ → List Operation → Verdict → Type 0
 IsVerdict initial operations (Yes places) =
     (order : List Operation) × ArePlacesOf operations places order × IsChosenOrder (course initial operations) (timed order)
 IsVerdict initial operations (No violation) = IsChosenViolation initial operations violation
 
--- a `YES` lists a linearization for a queue that holds these values first; the lines at the places of a `NO` show a violation
+-- a `YES` lists a linearization for a queue that holds these values first; the lines at the places of a `NO` show a
+-- violation
 abbrev pub IsEvidence : List ℕ → List Operation → Verdict → Type 0
 IsEvidence initial operations (Yes places) = (order : List Operation) × ArePlacesOf operations places order × IsLegalOrder initial operations order
 IsEvidence initial operations (No violation) = IsWithin initial operations (No violation)

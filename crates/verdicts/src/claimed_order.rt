@@ -27,7 +27,7 @@ pub(crate) fn is_legal_order(
     is_accepted(alloc, history.initial(), lines)
 }
 
-/// Whether the lines are the operations, each once: sorted by call, they are the same list.
+/// Returns whether the lines are the operations, each once: sorted by call, they are the same list.
 fn holds_each_once(
     alloc: Global,
     operations: &Operations<'_>,
@@ -44,7 +44,7 @@ fn holds_each_once(
     Ok(are_same(by_call.as_slice(), operations))
 }
 
-/// Whether the lines are the operations, one by one; there are as many.
+/// Returns whether the lines are the operations, one by one. There are as many of both.
 fn are_same(lines: &[Operation], operations: &Operations<'_>) -> bool
     requires { length lines.now ≡ length operations.now }
     ensures { IsTrue result ↔ (lines.now ≡ operations.now) }
@@ -67,7 +67,8 @@ fn is_same(operation: &Operation, line: &Operation) -> bool
     *operation == *line
 }
 
-/// Whether no line returned before an earlier one was called: each return is past the greatest call before it.
+/// Returns whether the lines extend precedence: none returned before an earlier one was called. It suffices to compare
+/// each return with the greatest call so far.
 fn extends_precedence(lines: &[Operation]) -> bool
     ensures { IsTrue result ↔ AllPairs (λ earlier later. ¬ (Precedes later earlier)) lines.now }
 {
@@ -81,7 +82,8 @@ fn extends_precedence(lines: &[Operation]) -> bool
     true
 }
 
-/// Returns whether the sequential specification, which holds these values first, accepts the lines in turn.
+/// Returns whether the sequential specification, which holds the values `first_held` at first, accepts the lines in
+/// turn.
 fn is_accepted(alloc: Global, first_held: &[u64], lines: &[Operation]) -> Result<bool, AllocError>
     ensures { IfOk result (λ accepted. IsTrue accepted ↔ IsAccepted first_held.now (map (λ o. o.kind) lines.now)) }
 {
@@ -94,7 +96,7 @@ fn is_accepted(alloc: Global, first_held: &[u64], lines: &[Operation]) -> Result
     Ok(true)
 }
 
-/// Takes one operation, where the queue accepts it.
+/// Applies one operation to the queue. Returns false if the queue doesn't accept it.
 fn takes(queue: &mut VecDeque<u64>, kind: OpKind) -> Result<bool, AllocError>
     ensures { IfOk result (λ taken. MatchBool taken (accept queue.old.items kind ≡ Some queue.new.items) (accept queue.old.items kind ≡ None)) }
 {

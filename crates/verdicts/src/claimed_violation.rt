@@ -9,7 +9,7 @@ use crate::lookup::{line_did, line_precedes, no_line_did, returns_first};
 use claims::{ClaimLine, ViolationKind};
 use history_merge::{History, OpKind};
 
-/// Whether the lines show a violation of this kind.
+/// Returns whether the lines show a violation of this kind.
 pub(crate) fn shows_violation(history: &History, kind: ViolationKind, lines: &[ClaimLine]) -> bool
     ensures { IsTrue result ↔ Shows history.now.initial (operations_of history.now.events) kind lines.now }
 {
@@ -21,7 +21,7 @@ pub(crate) fn shows_violation(history: &History, kind: ViolationKind, lines: &[C
     }
 }
 
-/// The value that the line dequeued.
+/// Returns the value that the line dequeued.
 fn dequeued_by(line: ClaimLine) -> Option<u64>
     ensures { result ≡ dequeued_by line }
 {
@@ -34,7 +34,7 @@ fn dequeued_by(line: ClaimLine) -> Option<u64>
     }
 }
 
-/// The value that the line enqueued.
+/// Returns the value that the line enqueued.
 fn enqueued_by(line: ClaimLine) -> Option<u64>
     ensures { result ≡ enqueued_by line }
 {
@@ -47,7 +47,7 @@ fn enqueued_by(line: ClaimLine) -> Option<u64>
     }
 }
 
-/// A dequeue alone, or with an enqueue of its value.
+/// Returns whether the lines are a phantom dequeue, alone or with a call to enqueue its value.
 fn shows_fresh(history: &History, lines: &[ClaimLine]) -> bool
     ensures { IsTrue result ↔ ShowsFresh history.now.initial (operations_of history.now.events) lines.now }
 {
@@ -84,7 +84,7 @@ fn is_enqueued_too_late(history: &History, deq: ClaimLine, enq: ClaimLine, value
             || line_did(history, enq, OpKind::Enq(value)) && line_precedes(history, deq, enq))
 }
 
-/// An enqueue and two dequeues of its value.
+/// Returns whether the lines are an enqueue and two dequeues of its value.
 fn shows_repeat(history: &History, lines: &[ClaimLine]) -> bool
     ensures { IsTrue result ↔ ShowsRepeat history.now.initial (operations_of history.now.events) lines.now }
 {
@@ -114,7 +114,8 @@ fn is_repeat(
         && returns_first(first, second)
 }
 
-/// The enqueues of a and b, the dequeue of b, and one of a if the history has any.
+/// Returns whether the lines are the enqueues of a and b, the dequeue of b, and one of a if the history has any,
+/// against the order of the enqueues.
 fn shows_order(history: &History, lines: &[ClaimLine]) -> bool
     ensures { IsTrue result ↔ ShowsOrder history.now.initial (operations_of history.now.events) lines.now }
 {
@@ -131,7 +132,8 @@ fn shows_order(history: &History, lines: &[ClaimLine]) -> bool
         && leaves_after(history, *deq_b, a, deq_a)
 }
 
-/// Whether the one line is the dequeue of the value, and another precedes it; or there is no line, and no such dequeue.
+/// Returns whether `deq` is one line, the dequeue of the value, which another line precedes; or no line, and the
+/// value is never dequeued.
 fn leaves_after(history: &History, line: ClaimLine, value: u64, deq: &[ClaimLine]) -> bool
     ensures { IsTrue result ↔ LeavesAfter history.now.initial (operations_of history.now.events) line value deq.now }
 {
@@ -142,7 +144,7 @@ fn leaves_after(history: &History, line: ClaimLine, value: u64, deq: &[ClaimLine
     }
 }
 
-/// An empty answer and the values of a cover.
+/// Returns whether the lines are an empty dequeue and the values of a cover.
 fn shows_witness(history: &History, lines: &[ClaimLine]) -> bool
     ensures { IsTrue result ↔ ShowsWitness history.now.initial (operations_of history.now.events) lines.now }
 {
@@ -153,7 +155,8 @@ fn shows_witness(history: &History, lines: &[ClaimLine]) -> bool
     }
 }
 
-/// The enqueue and the dequeue of each value of a cover in turn; the last value may lack a dequeue.
+/// Returns whether the lines are the enqueue and the dequeue of each value of a cover in turn. The last value may
+/// lack a dequeue.
 fn covers(history: &History, empty: ClaimLine, lines: &[ClaimLine]) -> bool
     ensures { IsTrue result ↔ LinesCover history.now.initial (operations_of history.now.events) empty empty lines.now }
 {
@@ -176,7 +179,7 @@ fn covers(history: &History, empty: ClaimLine, lines: &[ClaimLine]) -> bool
     }
 }
 
-/// Whether a value was enqueued before the line given, and then dequeued.
+/// Returns whether `enq` enqueued a value before the given line, and `deq` dequeued it.
 fn hands_over(history: &History, line: ClaimLine, enq: ClaimLine, deq: ClaimLine) -> bool
     ensures { IsTrue result ↔ ((v : ℕ) × EnqueuedBefore history.now.initial (operations_of history.now.events) line enq v
         × LineDid history.now.initial (operations_of history.now.events) deq (Deq v)) }

@@ -17,13 +17,12 @@ use std::alloc::{AllocError, Global};
 use std::thread::Threads;
 use value_match::{Matched, Matching, Violation, match_values};
 
-/// Decides whether a history has a linearization (Herlihy and Wing 1990) for a queue that holds the initial values first:
-/// `Yes` with the chosen one, or `No` with the chosen violation, of the first kind that is present: a value that was not
-/// there, a value dequeued twice, values dequeued against the order of their enqueues, an empty dequeue while the queue was
-/// never empty.
+/// Decides whether a history is linearizable (Herlihy and Wing 1990) for a queue that holds the initial values first.
 ///
-/// A linearization and a violation name operations and initial values by their own places, from 0. The four kinds are this
-/// project's own. `AllocError` comes only if memory ran out.
+/// Returns `Yes` with the chosen linearization, or `No` with the chosen violation of the first kind that is present:
+/// a phantom dequeue, a value dequeued twice, values dequeued against the order of their enqueues, an empty dequeue
+/// while the queue was never empty. Both name operations and initial values by their own places, from 0. The four
+/// kinds are this project's own. The only error is out of memory.
 ///
 /// The `history` dequeues 7, which was never enqueued:
 ///
@@ -37,11 +36,11 @@ pub fn decide(alloc: Global, history: &History) -> Result<Verdict, AllocError>
     decide_by(&OnePiece, alloc, history)
 }
 
-/// What `decide` answers, where the search for a cover runs in pieces that may run at once.
+/// Returns what `decide` returns, but searches for a cover in pieces that may run at once.
 ///
-/// Whatever the number of pieces and whichever thread ends first, the answer is the same. Few operations are searched in one
-/// piece, and start no thread. Where no thread can be started the caller's thread does the work. `AllocError` comes only where
-/// a growth was refused.
+/// The result doesn't depend on the number of pieces, nor on which thread ends first. A history of few operations is
+/// searched in one piece and starts no thread. If no thread can be started, the caller's thread does the work. The
+/// only error is out of memory.
 pub fn decide_par<R: Threads + Sync>(
     rt: &R,
     alloc: Global,
@@ -54,7 +53,7 @@ pub fn decide_par<R: Threads + Sync>(
     decide_by(&InPieces { rt, pieces }, alloc, history)
 }
 
-/// What `decide` answers, by this search for a cover.
+/// Returns what `decide` returns, with this search for a cover.
 pub fn decide_by<S: WitnessSearch>(
     search: &S,
     alloc: Global,
@@ -69,8 +68,8 @@ pub fn decide_by<S: WitnessSearch>(
     }
 }
 
-/// The verdict where each dequeue is of a value that was there, and no value is dequeued twice. Ordering the values finds the one
-/// that is dequeued first against the order of the enqueues, if there is one.
+/// Returns the verdict on a history without the first two kinds of violation. Ordering the values finds the
+/// first-dequeued value that overtakes another, if there is one.
 fn decide_matching<S: WitnessSearch>(
     search: &S,
     alloc: Global,
@@ -89,7 +88,8 @@ fn decide_matching<S: WitnessSearch>(
     }
 }
 
-/// The verdict where moreover no value is dequeued against the order of the enqueues, by what is found of the empty answers.
+/// Returns the verdict on a history without the first three kinds of violation, by the result of the search for a
+/// cover.
 fn decide_in_order(
     alloc: Global,
     matching: &Matching,
@@ -113,7 +113,8 @@ fn decide_in_order(
     }
 }
 
-/// The verdict where a pair of values is dequeued against the order of their enqueues: the pair that was found.
+/// Returns the verdict on a history in which a pair of values is dequeued against the order of their enqueues: the
+/// pair that was found.
 fn overtaken(matching: &Matching, pair: Option<OrderPair>) -> Verdict
     requires clear { IsClear (course_of matching.now) }
     requires overtaken { ¬ (NoOrderViolation (course_of matching.now)) }
@@ -123,7 +124,7 @@ fn overtaken(matching: &Matching, pair: Option<OrderPair>) -> Verdict
     Verdict::No(violation_of(pair.unwrap()))
 }
 
-/// The violation that a pair of values shows.
+/// Returns the violation that a pair of values shows.
 fn violation_of(pair: OrderPair) -> Violation
     ensures { result ≡ Violation.Order pair.enq_a pair.enq_b pair.deq_b pair.deq_a }
 {

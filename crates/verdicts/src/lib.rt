@@ -1,4 +1,4 @@
-//! Whether a history is linearizable, with evidence for the answer, and the history of a violation alone.
+//! Decides whether a history is linearizable, with evidence for the answer, and shrinks a history to its violation.
 #![tactic(auto)]
 
 mod claimed_order;

@@ -9,7 +9,7 @@ use claims::ClaimLine;
 use event_records::MAX_TICKET;
 use history_merge::{History, OpKind, Operation, PackedOperation};
 
-/// Whether the line is an operation that did this, or an initial value that this enqueues.
+/// Returns whether the line is an operation of this kind, or an initial value that this kind enqueues.
 pub(crate) fn line_did(history: &History, line: ClaimLine, kind: OpKind) -> bool
     ensures { IsTrue result ↔ LineDid history.now.initial (operations_of history.now.events) line kind }
 {
@@ -20,14 +20,14 @@ pub(crate) fn line_did(history: &History, line: ClaimLine, kind: OpKind) -> bool
     }
 }
 
-/// Whether no operation did this, and no initial value; a scan of them all.
+/// Returns whether no operation is of this kind, and no initial value is enqueued by it. Scans them all.
 pub(crate) fn no_line_did(history: &History, kind: OpKind) -> bool
     ensures { IsTrue result ↔ NoLineDid history.now.initial (operations_of history.now.events) kind }
 {
     none_did(history.by_time(), kind)
 }
 
-/// Whether the first line precedes the second.
+/// Returns whether the first line precedes the second.
 pub(crate) fn line_precedes(history: &History, first: ClaimLine, second: ClaimLine) -> bool
     ensures { IsTrue result ↔ LinePrecedes history.now.initial first second }
 {
@@ -41,7 +41,7 @@ pub(crate) fn line_precedes(history: &History, first: ClaimLine, second: ClaimLi
     }
 }
 
-/// Whether both lines are operations, and the first returned first.
+/// Returns whether both lines are operations, and the first returned before the second.
 pub(crate) fn returns_first(first: ClaimLine, second: ClaimLine) -> bool
     ensures { IsTrue result ↔ ReturnsFirst first second }
 {
@@ -57,7 +57,7 @@ fn is_among(values: &[u64], value: u64) -> bool
     values.contains(&value)
 }
 
-/// Whether the first value stands before the second.
+/// Returns whether the first value comes before the second.
 fn stands_before(values: &[u64], first: u64, second: u64) -> bool
     ensures { IsTrue result ↔ ComesBefore values.now first second }
 {
@@ -69,7 +69,7 @@ fn stands_before(values: &[u64], first: u64, second: u64) -> bool
     false
 }
 
-/// Whether this is one of the operations, found by its call.
+/// Returns whether this is one of the operations, found by its call.
 fn is_operation(history: &History, operation: Operation) -> bool
     ensures { IsTrue result ↔ Contains (operations_of history.now.events) operation }
 {
@@ -80,7 +80,7 @@ fn is_operation(history: &History, operation: Operation) -> bool
     has_operation(by_time, operation.timed())
 }
 
-/// Whether this is one of the operations, found by its call.
+/// Returns whether this is one of the operations, found by its call.
 fn has_operation(operations: &[PackedOperation], operation: Operation) -> bool
     requires { CallsRise operations.now }
     ensures { IsTrue result ↔ Contains operations.now operation }
@@ -91,7 +91,7 @@ fn has_operation(operations: &[PackedOperation], operation: Operation) -> bool
     }
 }
 
-/// Whether this is the operation at the place.
+/// Returns whether this is the operation at `place`.
 fn is_at(operations: &[PackedOperation], place: usize, operation: &Operation) -> bool
     requires { place < length operations.now }
     ensures { (d : Operation) → IsTrue result ↔ (slice_index_or operations.now place d ≡ operation.now) }
@@ -99,7 +99,7 @@ fn is_at(operations: &[PackedOperation], place: usize, operation: &Operation) ->
     operations[place].unpack() == *operation
 }
 
-/// Whether none of the operations did this.
+/// Returns whether none of the operations is of this kind.
 fn none_did(operations: &[PackedOperation], kind: OpKind) -> bool
     ensures { IsTrue result ↔ NoneDid operations.now kind }
 {

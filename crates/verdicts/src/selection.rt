@@ -20,7 +20,7 @@ pub(crate) struct Selection {
 }
 
 impl Selection {
-    /// The values and the calls of these lines.
+    /// Returns the selection of the values and calls of these lines.
     pub(crate) fn named_by(alloc: Global, lines: &[ClaimLine]) -> Result<Selection, AllocError>
         ensures { IfOk result (λ selection. SelectsNamed lines.now (contains nat_cmp selection.values) (contains nat_cmp selection.calls)) }
     {
@@ -29,7 +29,7 @@ impl Selection {
         Ok(Selection { values, calls })
     }
 
-    /// The selected ones of these initial values, in their order.
+    /// Returns the selected ones of these initial values, in their order.
     pub(crate) fn initial(&self, alloc: Global, initial: &[u64]) -> Result<Vec<u64>, AllocError>
         ensures { IfOk result (λ kept. kept.items ≡ filter (contains nat_cmp self.now.values) initial.now) }
     {
@@ -40,7 +40,7 @@ impl Selection {
             .collect(alloc)
     }
 
-    /// The events of the selected ones of a history's operations, in their order.
+    /// Returns the events of the selected operations of a history, in their order.
     pub(crate) fn events(&self, alloc: Global, history: &History) -> Result<Vec<Event>, AllocError>
         ensures kept { IfOk result (λ kept. kept.items ≡ filter (λ e. holds_ticket (filter (selects (contains nat_cmp self.now.values)
             (contains nat_cmp self.now.calls)) (operations_of history.now.events)) e.ticket) history.now.events) }
@@ -50,7 +50,7 @@ impl Selection {
         events_at(alloc, history.events(), &tickets)
     }
 
-    /// The tickets of the selected operations.
+    /// Returns the tickets of the selected operations.
     fn tickets(
         &self,
         alloc: Global,
@@ -69,7 +69,7 @@ impl Selection {
         Ok(tickets)
     }
 
-    /// Whether the operation is selected.
+    /// Returns whether the operation is selected.
     fn selects(&self, operation: &Operation) -> bool
         ensures { result ≡ selects (contains nat_cmp self.now.values) (contains nat_cmp self.now.calls) operation.now }
     {
@@ -80,7 +80,7 @@ impl Selection {
     }
 }
 
-/// The value of an operation that did this; an empty answer has none.
+/// Returns the value of an operation of this kind. An empty dequeue has none.
 fn value_of(kind: OpKind) -> Option<u64>
     ensures { result ≡ value_of kind }
 {
@@ -90,7 +90,7 @@ fn value_of(kind: OpKind) -> Option<u64>
     }
 }
 
-/// The value of a line.
+/// Returns the value of a line.
 fn value_in(line: &ClaimLine) -> Option<u64>
     ensures { result ≡ value_in line.now }
 {
@@ -100,7 +100,7 @@ fn value_in(line: &ClaimLine) -> Option<u64>
     }
 }
 
-/// The call of a line's operation.
+/// Returns the call of a line's operation.
 fn call_in(line: &ClaimLine) -> Option<u64>
     ensures { result ≡ call_in line.now }
 {
@@ -122,7 +122,7 @@ fn calls_of(alloc: Global, lines: &[ClaimLine]) -> Result<BTreeSet<u64>, AllocEr
     lines.iter().filter_map(call_in).collect(alloc)
 }
 
-/// The events at these tickets, in their order.
+/// Returns the events at these tickets, in their order.
 fn events_at(
     alloc: Global,
     events: Events<'_>,

@@ -12,16 +12,16 @@ use history_merge::{History, history_from};
 use std::alloc::{AllocError, Global};
 use value_match::Violation;
 
-/// The history of the chosen violation alone: the initial values and all operations of the values that it names, and its
-/// empty answer, with the tickets and threads that they had.
+/// Returns the history of the chosen violation alone: the initial values and all operations of the values that it
+/// names, and its empty dequeue, with their tickets and threads.
 ///
-/// The violation is the one that `decide` answers for this history. What `decide` answers for the small history has the same
-/// claim. Without any one of its values, or without its
-/// empty answer, the small history is linearizable. It need not be the smallest such part of the history: another violation
-/// may show fewer operations, but of an empty answer no cover has fewer values.
+/// The violation is the one that `decide` returns for this history. What `decide` returns for the small history has
+/// the same claim. Without any one of its values, or without its empty dequeue, the small history is linearizable. It
+/// need not be the smallest such part of the history, since another violation may show fewer operations; but no cover
+/// of the empty dequeue has fewer values.
 ///
-/// Time O(n log n) for n initial values and operations. Memory beside the answer: a copy of the lines of the violation, and
-/// sets of the values and of the tickets that are kept. `AllocError` comes only where a growth was refused.
+/// Takes O(n log n) time for n initial values and operations. Beside the result it takes memory for a copy of the
+/// violation's lines, and for the sets of the values and tickets that are kept. The only error is out of memory.
 ///
 /// The `history` enqueues 5, and dequeues 7, which was never enqueued:
 ///
@@ -53,13 +53,13 @@ pub fn shrink(
     history_of(alloc, initial, events.as_slice())
 }
 
-/// The history of initial values and events that are known to be those of a complete one.
+/// Makes a history of initial values and events that are known to be complete.
 fn history_of(alloc: Global, initial: Vec<u64>, events: &[Event]) -> Result<History, AllocError>
     requires few_initial { vec_len initial ≤ MAX_INITIAL }
     requires few_events { length events.now ≤ MAX_EVENTS }
     requires complete { IsCompleteFrom initial.items events.now }
     ensures { IfOk result (λ whole. (whole.initial ≡ initial.items) × (whole.events ≡ events.now)) }
 {
-    // A complete history is refused only if memory runs out.
+    // Memory is the only reason why a complete history is rejected.
     history_from(alloc, initial, events).map_err(|_| AllocError)
 }

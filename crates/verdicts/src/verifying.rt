@@ -9,13 +9,14 @@ use claims::Claimed;
 use history_merge::History;
 use std::alloc::{AllocError, Global};
 
-/// Returns whether a claim is evidence in this history: a `YES` that lists a linearization (Herlihy and Wing 1990) for a
-/// queue that holds the initial values first, or a `NO` whose lines have the shape of their kind and show a violation. It
-/// need not be the linearization or the violation that `decide` chooses.
+/// Returns whether a claim is evidence in this history: a `YES` that lists a linearization (Herlihy and Wing 1990)
+/// for a queue that holds the initial values first, or a `NO` whose lines have the shape of their kind and show a
+/// violation. It need not be the linearization or the violation that `decide` chooses.
 ///
-/// It checks the claim by itself: it searches for nothing, and makes no order. Time O(n + m log n) for a history of n
-/// operations and a claim of m lines, and for a line of an initial value a walk over these. Memory for a `YES`: a copy of
-/// its lines, and the values in the queue; for a `NO` none, so memory doesn't run out.
+/// The claim is checked by itself, without a search for violations and without making an order. Takes O(n + m log n)
+/// time for a history of n operations and a claim of m lines, and a walk over the initial values for each line of
+/// one. For a `YES` it takes memory for a copy of its lines and for the values in the queue. For a `NO` it takes
+/// none, so it doesn't run out of memory.
 ///
 /// The `history` dequeues 7, which was never enqueued:
 ///

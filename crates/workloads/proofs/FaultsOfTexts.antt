@@ -1,4 +1,4 @@
--- No two faults are true of one text.
+-- A text has only one fault.
 use Rattle.std.proofs.Common.{◌≡◌, inl, inr, ℕ, ◌<◌, List, [], ◌∷◌, ◌++◌, length, map, take, get_or, All, refl, sym, ap, ◌∙◌, subst, append_assoc}
 use Rattle.std.proofs.Common.{length-append, Result, Ok, Err, IsErrAnd, MatchResult, arith}
 use Rattle.std.proofs.lemmas.Bool.{cases_lt}
@@ -20,7 +20,7 @@ whole_not_cut text (row ∷ rows) is cut =
     let line = is ∙ ap text_of last.2 ∙ text_of-push last.0 last.1 ∙ sym (append_assoc (text_of last.0) (map letter last.1) (LINE_FEED ∷ [])) in
     cut.no_end (sym (same_from_push (text_of last.0 ++ map letter last.1) cut.front LINE_FEED cut.last (sym line ∙ cut.text_is)).1)
 
--- a stray byte is not of a text
+-- a stray byte is not a byte of a text
 stray_no_byte : (text : List ℕ) (worker : ℕ) (stray : HasStray text worker) → IsOfText stray.stray → ⊥
 stray_no_byte text worker stray (inl end) = stray.no_end end
 stray_no_byte text worker stray (inr other) = stray.no_letter other.0 other.1
@@ -37,7 +37,7 @@ whole_no_stray text rows worker is stray =
     let within : length stray.before < length text = omega (arith, ap length stray.text_is, length-append stray.before (stray.stray ∷ stray.after)) in
     stray_no_byte text worker stray (subst IsOfText (stray_here text worker stray) (All-get_or IsOfText text (length stray.before) 0 within all))
 
--- no stray byte stands before the first one
+-- no stray byte comes before the first one
 none_before : (text : List ℕ) (worker other : ℕ) (stray : HasStray text worker) (first : HasStray text other) → length stray.before < length first.before → ⊥
 none_before text worker other stray first earlier =
     let i = length stray.before in
@@ -45,7 +45,7 @@ none_before text worker other stray first earlier =
     ∙ ap (λ (l : List ℕ). get_or l i 0) (sym first.text_is) ∙ stray_here text worker stray in
     stray_no_byte text worker stray (subst IsOfText same (All-get_or IsOfText first.before i 0 earlier (lines_are_of_text first.before other first.lines)))
 
--- one worker has the first stray byte
+-- only one worker has the first stray byte
 one_stray : (text : List ℕ) (worker other : ℕ) → HasStray text worker → HasStray text other → worker ≡ other
 one_stray text worker other stray first =
     let early = none_before text worker other stray first in
@@ -60,7 +60,7 @@ one_stray text worker other stray first =
     let read = reads_once stray.lines.rows first.lines.rows stray.lines.kinds first.lines.kinds (sym stray.lines.bytes_are ∙ before ∙ first.lines.bytes_are) in
     sym stray.lines.count ∙ ap length read.0 ∙ first.lines.count
 
--- a text has one fault
+-- a text has only one fault
 pub one_fault : (text : List ℕ) (fault other : PlanFault) → IsFaultOf text fault → IsFaultOf text other → fault ≡ other
 one_fault text Cut Cut a b = refl
 one_fault text Cut (Letter worker) a b = absurd (b.0 a)
@@ -81,7 +81,7 @@ one_fault text Memory Limit a b = absurd (b.beyond (subst (λ (rows : List (List
     (read_once a.rows b.rows (sym a.text_is ∙ b.text_is)) a.within))
 one_fault text Memory Memory a b = refl
 
--- an answer that is out of memory, if that is the fault of the text
+-- if the fault of a text is out of memory, so is that of a result
 pub memory_is : {A : Type 0} (answer : Result A PlanFault) (fault : PlanFault) → IsErrAnd answer (λ e. e ≡ Memory) → Memory ≡ fault
     → MatchResult answer (λ _. fault ≡ Memory) (λ found. found ≡ fault)
 memory_is (Ok value) fault is same = absurd is

@@ -1,4 +1,4 @@
--- How the kinds that words give are put together.
+-- The kinds that words give, joined.
 use Rattle.std.proofs.Common.{◌≡◌, ℕ, suc, ◌+◌, ◌*◌, ◌≤◌, List, [], ◌∷◌, ◌++◌, length, flat_map, All, sym, ap, ◌∙◌, subst, add-zero}
 use Rattle.std.proofs.Common.{length-append, append_assoc, arith}
 use Rattle.std.proofs.lemmas.List.{append-nil}
@@ -25,7 +25,7 @@ gives_word percent before word after step = record {
   begins = λ more. first_kind percent more before ∙ ap (λ (p : ℕ × Lcg). kind_of_word percent p.0 ∷ kinds_of_words percent more p.1) (sym step);
 }
 
--- kinds, and further kinds after them
+-- kinds, and then further kinds
 gives_both : (percent : ℕ) (before middle after : Lcg) (kinds further : List Kind) → GivesKinds percent before kinds middle
     → GivesKinds percent middle further after → GivesKinds percent before (kinds ++ further) after
 gives_both percent before middle after kinds further first second = record {
@@ -37,7 +37,7 @@ gives_both percent before middle after kinds further first second = record {
       ∙ sym (append_assoc kinds further (kinds_of_words percent more after));
 }
 
--- one kind more
+-- one more kind
 pub gives_more : (percent : ℕ) (before middle after : Lcg) (kinds longer : List Kind) (word : ℕ) (kind : Kind)
     → GivesKinds percent before kinds middle → (word, after) ≡ pcg64 middle → kind ≡ kind_of_word percent word → longer ≡ kinds ++ kind ∷ []
     → GivesKinds percent before longer after
@@ -45,13 +45,13 @@ gives_more percent before middle after kinds longer word kind first step is last
     let both = gives_both percent before middle after kinds (kind_of_word percent word ∷ []) first (gives_word percent middle word after step) in
     subst (λ (l : List Kind). GivesKinds percent before l after) (sym (last ∙ ap (λ (k : Kind). kinds ++ k ∷ []) is)) both
 
--- rows of this many operations each, whose kinds the words give
+-- rows of this many operations each, whose kinds come from the words
 pub record GivesRows (percent operations : ℕ) (before : Lcg) (rows : List (List Kind)) (after : Lcg) : Type 0 where
   pub lengths : All (λ row. length row ≡ operations) rows
   pub total : length (flat_map (λ row. row) rows) ≡ length rows * operations
   pub kinds : GivesKinds percent before (flat_map (λ row. row) rows) after
 
--- one row more
+-- one more row
 pub gives_row : (percent operations : ℕ) (before middle after : Lcg) (rows longer : List (List Kind)) (row : List Kind)
     → GivesRows percent operations before rows middle → GivesKinds percent middle row after → length row ≡ operations → longer ≡ rows ++ row ∷ []
     → GivesRows percent operations before longer after
@@ -67,7 +67,7 @@ gives_row percent operations before middle after rows longer row first next size
     joined : flat_map (λ (r : List Kind). r) (rows ++ row ∷ []) ≡ flat_map (λ (r : List Kind). r) rows ++ row
     joined = flat_map-append (λ (r : List Kind). r) rows (row ∷ []) ∙ ap (λ (l : List Kind). flat_map (λ (r : List Kind). r) rows ++ l) (append-nil row)
 
--- as many rows as there are workers are a plan of the seed
+-- one row for each worker is a plan of the seed
 pub seeded : (seed percent workers operations : ℕ) (rows : List (List Kind)) (after : Lcg)
     → GivesRows percent operations (generator_of seed) rows after → length rows ≡ workers → IsSeeded seed workers operations percent rows
 unfolding first_words

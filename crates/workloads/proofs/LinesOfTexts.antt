@@ -1,4 +1,4 @@
--- The lines of plans' texts: how they grow by a byte, and that a text is read in one way.
+-- The lines of plans' texts: one more byte of them, and that a text is parsed in only one way.
 use Rattle.std.proofs.Common.{◌≡◌, ◌≢◌, ◌⊎◌, inl, inr, ℕ, ◌+◌, ◌<◌, ◌≤◌, true, false, cond}
 use Rattle.std.proofs.Common.{List, [], ◌∷◌, ◌++◌, length, map, take, drop, get_or, All}
 use Rattle.std.proofs.Common.{sum_by, count_by, eqb, refl, sym, ap, ◌∙◌, subst, append_assoc, length-append, arith}
@@ -17,7 +17,7 @@ use Rattle.workloads.specs.Plans.{AreShort}
 use Rattle.workloads.specs.Texts.{letter, line_of, text_of, IsCut, HasLines, HasStray}
 use Rattle.workloads.specs.Inner.Texts.{ends_line, is_short_line}
 
--- letters end no line
+-- letters don't end a line
 letter_goes_on : (kind : Kind) → ends_line (letter kind) ≡ false
 letter_goes_on Enq = refl
 letter_goes_on Deq = refl
@@ -30,15 +30,15 @@ letters_go_on : (kinds : List Kind) → All (λ byte. ends_line byte ≡ false) 
 letters_go_on [] = All-nil (λ byte. ends_line byte ≡ false)
 letters_go_on (kind ∷ kinds) = All-cons (λ byte. ends_line byte ≡ false) (letter kind) (map letter kinds) (letter_goes_on kind) (letters_go_on kinds)
 
--- the text of one row more
+-- the text with one more row
 pub text_of-push : (rows : List (List Kind)) (row : List Kind) → text_of (rows ++ row ∷ []) ≡ text_of rows ++ line_of row
 text_of-push rows row = flat_map-append line_of rows (row ∷ []) ∙ ap (λ (l : List ℕ). text_of rows ++ l) (append-nil (line_of row))
 
--- a line and what follows it
+-- a line, and the bytes after it
 line_first : (row : List Kind) (rest : List ℕ) → line_of row ++ rest ≡ map letter row ++ LINE_FEED ∷ rest
 line_first row rest = append_assoc (map letter row) (LINE_FEED ∷ []) rest
 
--- the parts between the line ends are the letters of the rows, those of an unfinished row among them
+-- the parts between the line ends are the letters of the rows, and those of an unfinished row
 pub parts_of_lines : (rows : List (List Kind)) (kinds : List Kind)
     → slice_split ends_line (text_of rows ++ map letter kinds) ≡ map (map letter) (rows ++ kinds ∷ [])
 parts_of_lines [] kinds = slice_split_none ends_line (map letter kinds) (letters_go_on kinds)
@@ -62,7 +62,7 @@ rows_back [] = refl
 rows_back (row ∷ rows) = ap (λ (l : List Kind). l ∷ map (map kind_of_letter) (map (map letter) rows)) (kinds_back row)
     ∙ ap (λ (l : List (List Kind)). row ∷ l) (rows_back rows)
 
--- bytes are lines and letters of one more in one way
+-- bytes are lines and letters of one more in only one way
 pub reads_once : (rows more : List (List Kind)) (kinds others : List Kind) → text_of rows ++ map letter kinds ≡ text_of more ++ map letter others
     → (rows ≡ more) × (kinds ≡ others)
 reads_once rows more kinds others same =
@@ -70,11 +70,11 @@ reads_once rows more kinds others same =
     let back = sym (rows_back (rows ++ kinds ∷ [])) ∙ ap (map (map kind_of_letter)) parts ∙ rows_back (more ++ others ∷ []) in
     same_from_push rows more kinds others back
 
--- no bytes are no line
+-- no bytes are no lines
 pub lines_none : HasLines [] 0
 lines_none = record { rows = []; kinds = []; bytes_are = refl; count = refl }
 
--- one letter more
+-- one more letter
 pub letters_more : (bytes : List ℕ) (rows : List (List Kind)) (kinds : List Kind) (kind : Kind) → bytes ≡ text_of rows ++ map letter kinds
     → bytes ++ letter kind ∷ [] ≡ text_of rows ++ map letter (kinds ++ kind ∷ [])
 letters_more bytes rows kinds kind is =
@@ -109,7 +109,7 @@ has_end bytes workers has = record {
   count = let size = length-append has.rows (has.kinds ∷ []) in let count = has.count in omega (arith, size, count);
 }
 
--- a line of letters
+-- the length of a line
 length-line_of : (row : List Kind) → length (line_of row) ≡ length row + 1
 length-line_of row = length-append (map letter row) (LINE_FEED ∷ []) ∙ ap (λ (n : ℕ). n + 1) (length-map row letter)
 
@@ -122,7 +122,7 @@ length-text_of (row ∷ rows) = omega (arith, length-append (line_of row) (text_
 parts-text_of : (rows : List (List Kind)) → slice_split ends_line (text_of rows) ≡ map (map letter) (rows ++ [] ∷ [])
 parts-text_of rows = ap (slice_split ends_line) (sym (append-nil (text_of rows))) ∙ parts_of_lines rows []
 
--- as many lines end as there are workers
+-- there are as many line ends as workers
 count-text_of : (rows : List (List Kind)) → count_by ends_line (text_of rows) ≡ length rows
 count-text_of rows = omega (
   arith,
@@ -151,7 +151,7 @@ lines_from_short (row ∷ rows) short =
     and_from (is_short_line (map letter row)) (list_all is_short_line (map (map letter) (rows ++ [] ∷ [])))
     (le-leb (length (map letter row)) MAX_THREAD_OPERATIONS line) rest
 
--- what the bytes of a text tell of its rows
+-- facts about the rows of a text, from its bytes
 pub record AreRowsOf (text : List ℕ) (rows : List (List Kind)) : Type 0 where
   pub workers : count_by ends_line text ≡ length rows
   pub operations : sum_by length rows + length rows ≡ length text
@@ -181,7 +181,7 @@ lines_at_end text i workers within is lines =
     subst (λ (bytes : List ℕ). HasLines bytes (workers + 1)) (ap (λ (byte : ℕ). take i text ++ byte ∷ []) (sym is) ∙ sym (take_more text i 0 within))
     (has_end (take i text) workers lines)
 
--- another byte at place i
+-- any other byte at place i
 pub stray_at : (text : List ℕ) (i workers : ℕ) → i < length text → HasLines (take i text) workers → ((kind : Kind) → get_or text i 0 ≢ letter kind)
     → get_or text i 0 ≢ LINE_FEED → HasStray text workers
 stray_at text i workers within lines no_letter no_end = record {
@@ -201,7 +201,7 @@ last_of {A} first (next ∷ rest) =
     let last = last_of next rest in
     (first ∷ last.0, last.1, ap (λ (l : List A). first ∷ l) last.2)
 
--- lines that are not cut are whole
+-- lines that aren't cut are whole
 pub whole_lines : (text : List ℕ) (workers : ℕ) → HasLines text workers → ¬ IsCut text → (rows : List (List Kind)) × (text ≡ text_of rows)
 whole_lines text workers lines whole = from_kinds lines.kinds lines.bytes_are
   where
@@ -217,7 +217,7 @@ whole_lines text workers lines whole = from_kinds lines.kinds lines.bytes_are
           no_end = letter_is_no_end last.1;
         }))
 
--- a text is that of one list of rows
+-- a text is that of only one list of rows
 pub read_once : (rows more : List (List Kind)) → text_of rows ≡ text_of more → rows ≡ more
 read_once rows more same = (reads_once rows more [] [] (append-nil (text_of rows) ∙ same ∙ sym (append-nil (text_of more)))).0
 
@@ -228,7 +228,7 @@ read_whole text planned rows kinds i is all read =
     let same = (reads_once planned rows [] kinds (append-nil (text_of planned) ∙ sym is ∙ sym (take_all i text all) ∙ read)).0 in
     is ∙ ap text_of same
 
--- the end of a line, or a letter
+-- a line end, or a letter
 abbrev pub IsOfText : ℕ → Type 0
 IsOfText byte = (byte ≡ LINE_FEED) ⊎ ((kind : Kind) × (byte ≡ letter kind))
 
@@ -236,14 +236,14 @@ letters_are_of_text : (kinds : List Kind) (rest : List ℕ) → All IsOfText res
 letters_are_of_text [] rest all = all
 letters_are_of_text (kind ∷ kinds) rest all = All-cons IsOfText (letter kind) (map letter kinds ++ rest) (inr (kind, refl)) (letters_are_of_text kinds rest all)
 
--- the text of rows has bytes of such texts alone
+-- the text of rows has only such bytes
 pub bytes_are_of_text : (rows : List (List Kind)) → All IsOfText (text_of rows)
 bytes_are_of_text [] = All-nil IsOfText
 bytes_are_of_text (row ∷ rows) =
     subst (λ (l : List ℕ). All IsOfText l) (sym (line_first row (text_of rows)))
     (letters_are_of_text row (LINE_FEED ∷ text_of rows) (All-cons IsOfText LINE_FEED (text_of rows) (inl refl) (bytes_are_of_text rows)))
 
--- lines have such bytes alone
+-- lines have only such bytes
 pub lines_are_of_text : (bytes : List ℕ) (workers : ℕ) → HasLines bytes workers → All IsOfText bytes
 lines_are_of_text bytes workers lines =
     let whole = bytes_are_of_text lines.rows in
@@ -260,13 +260,13 @@ end_of_line text rows i is within no_letter =
       | inr other ↦ absurd (no_letter other.0 other.1)
     ]
 
--- one letter more is read
+-- one more letter is parsed
 pub reads_letter : (text : List ℕ) (i : ℕ) (rows : List (List Kind)) (kinds : List Kind) (kind : Kind) → i < length text
     → get_or text i 0 ≡ letter kind → take i text ≡ text_of rows ++ map letter kinds → take (i + 1) text ≡ text_of rows ++ map letter (kinds ++ kind ∷ [])
 reads_letter text i rows kinds kind within is read = take_more text i 0 within ∙ ap (λ (byte : ℕ). take i text ++ byte ∷ []) is
     ∙ letters_more (take i text) rows kinds kind read
 
--- the end of a line is read
+-- the end of a line is parsed
 pub reads_end : (text : List ℕ) (i : ℕ) (rows : List (List Kind)) (kinds : List Kind) → i < length text → get_or text i 0 ≡ LINE_FEED
     → take i text ≡ text_of rows ++ map letter kinds → take (i + 1) text ≡ text_of (rows ++ kinds ∷ []) ++ map letter []
 reads_end text i rows kinds within is read = take_more text i 0 within ∙ ap (λ (byte : ℕ). take i text ++ byte ∷ []) is

@@ -1,4 +1,4 @@
--- Plans of a seed: the kinds are read off the words of a generator.
+-- Plans determined by a seed: the kinds come from the words of a generator.
 use Rattle.std.specs.Prelude.{◌≡◌, ℕ, ◌*◌, ◌%◌, nat_lt, List, length, map, flat_map, All, if◌then◌else◌}
 use Rattle.rand_core.specs.Pcg32Seed.{pcg32_seed}
 use Rattle.rand_core.specs.Steps.{first_words}
@@ -19,7 +19,8 @@ kind_of_word percent word = if nat_lt (word % 100) percent then Enq else Deq
 abbrev pub kinds_of_words : ℕ → ℕ → Lcg → List Kind
 kinds_of_words percent n generator = map (kind_of_word percent) (first_words pcg64 n generator)
 
--- this many workers with this many operations each, whose kinds, one worker after another, are those of the seed's first words
+-- this many workers with this many operations each, whose kinds, one worker after another, come from the seed's first
+-- words
 pub record IsSeeded (seed workers operations percent : ℕ) (rows : List (List Kind)) : Type 0 where
   pub all_workers : length rows ≡ workers
   pub all_operations : All (λ row. length row ≡ operations) rows

@@ -1,4 +1,4 @@
--- The text of a plan: one line for each worker, of one letter for each of its operations.
+-- The text of a plan: one line for each worker, with one letter for each of its operations.
 use Rattle.std.specs.Prelude.{◌≡◌, ◌≢◌, ℕ, List, [], ◌∷◌, ◌++◌, length, map, flat_map}
 use Rattle.event_records.specs.declared.kind.Kind.{Kind}
 use Rattle.event_records.specs.declared.kind.Kind.TheVariants.{Enq, Deq}
@@ -20,7 +20,7 @@ line_of row = map letter row ++ LINE_FEED ∷ []
 abbrev pub text_of : List (List Kind) → List ℕ
 text_of rows = flat_map line_of rows
 
--- the text has a last byte, and it ends no line
+-- the last byte of the text doesn't end a line
 pub record IsCut (text : List ℕ) : Type 0 where
   pub front : List ℕ
   pub last : ℕ
@@ -34,7 +34,7 @@ pub record HasLines (bytes : List ℕ) (workers : ℕ) : Type 0 where
   pub bytes_are : bytes ≡ text_of rows ++ map letter kinds
   pub count : length rows ≡ workers
 
--- in the line of this worker stands the text's first byte that is no letter and ends no line
+-- the first byte that is neither a letter nor the end of a line is in the line of this worker
 pub record HasStray (text : List ℕ) (worker : ℕ) : Type 0 where
   pub before : List ℕ
   pub stray : ℕ
@@ -44,19 +44,19 @@ pub record HasStray (text : List ℕ) (worker : ℕ) : Type 0 where
   pub no_letter : (kind : Kind) → stray ≢ letter kind
   pub no_end : stray ≢ LINE_FEED
 
--- the text is that of rows which are a plan's
+-- the text is that of the rows of a plan
 pub record IsPlanText (text : List ℕ) : Type 0 where
   pub rows : List (List Kind)
   pub text_is : text ≡ text_of rows
   pub within : IsPlan rows
 
--- the text is that of rows which are beyond the limits of a plan
+-- the text is that of rows beyond the limits of a plan
 pub record IsBeyondLimits (text : List ℕ) : Type 0 where
   pub rows : List (List Kind)
   pub text_is : text ≡ text_of rows
   pub beyond : ¬ IsPlan rows
 
--- what each fault says of the text: no two of these hold of one text
+-- the meaning of each fault; a text has only one of them
 abbrev pub IsFaultOf : List ℕ → PlanFault → Type 0
 IsFaultOf text Cut = IsCut text
 IsFaultOf text (Letter worker) = (¬ IsCut text) × HasStray text worker

@@ -1,4 +1,4 @@
-//! Plans: which operations each worker of a run makes, in order.
+//! Plans: the operations that each worker of a run makes, in order.
 #![tactic(auto)]
 
 mod plans;

@@ -9,7 +9,7 @@ use std::marker::Model;
 /// The operations of one worker, in order, seen as the list of their kinds.
 pub type Row = OwnedSlice<Kind>;
 
-/// One row for each worker, row 0 that of worker 0, within the limits of a run: 1 to 32 workers, at most 100,000
+/// One row for each worker, row 0 for worker 0, within the limits of a run: 1 to 32 workers, at most 100,000
 /// operations of one worker, and at most 1,000,000 of all together.
 #[derive(Debug, Drop)]
 pub struct Plan {
@@ -29,7 +29,7 @@ impl Model for Plan {
 }
 
 impl Plan {
-    /// Makes the plan of these rows, or none if they are beyond the limits. It takes no memory.
+    /// Makes the plan of these rows, or none if they are beyond the limits. Takes no memory.
     pub fn of_rows(rows: Vec<Row>) -> Option<Plan>
         ensures limits { IsSome result ↔ IsPlan rows.items }
         ensures plan { IfSome result (λ plan. plan ≡ rows.items) }
@@ -57,7 +57,7 @@ impl Plan {
         self.rows.as_slice()
     }
 
-    /// Returns how many operations all workers make together.
+    /// Returns the number of operations of all workers together.
     pub fn operations(&self) -> u64
         ensures count { result ≡ sum_by length self.now }
         ensures small { result ≤ MAX_OPERATIONS }
@@ -66,7 +66,7 @@ impl Plan {
     }
 }
 
-// Whether a plan may have these rows.
+// Returns whether a plan may have these rows.
 #[tactic(auto, using(crate::proofs::Limits::sum_of_short))]
 fn are_within_limits(rows: &[Row]) -> bool
     ensures { IsTrue result ↔ IsPlan rows.now }

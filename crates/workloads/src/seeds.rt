@@ -1,4 +1,4 @@
-// Plans that a seed determines.
+// Plans determined by a seed.
 ghost use Rattle.std.specs.Prelude.{◌≡◌, ◌*◌, ◌≤◌, length, IfOk};
 ghost use Rattle.event_records.specs.declared.limits.TheConstants.{MAX_OPERATIONS, MAX_THREAD_OPERATIONS};
 ghost use Rattle.event_records.specs.declared.limits.TheConstants.{MAX_WORKERS};

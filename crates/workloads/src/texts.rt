@@ -19,19 +19,19 @@ const DEQUEUE: u8 = b'D';
 
 const LINE_FEED: u8 = b'\n';
 
-/// Why a text is not read as a plan: of the faults that the text has, the one that stands first here.
+/// The reason why a text isn't a plan. If it has several faults, it is the one that comes first here.
 #[derive(Clone, Copy, Debug, PartialEq, Eq, Error)]
 pub enum PlanFault {
-    /// The text is not empty and does not end with LF.
+    /// The text isn't empty and doesn't end with LF.
     #[error("the last line does not end with LF")]
     Cut,
-    /// The line of this worker, from 0, is the first with another byte than `E` and `D`.
+    /// The line of this worker, from 0, is the first that has a byte other than `E` and `D`.
     #[error("the line of worker {0} has another byte than E and D")]
     Letter(usize),
     /// The lines are too few, too many or too long for a plan. The empty text has no line.
     #[error("the plan is beyond the limits of a run")]
     Limit,
-    /// The text is a plan's, but memory ran out.
+    /// The text is that of a plan, but memory ran out.
     #[error("out of memory")]
     Memory,
 }
@@ -45,15 +45,15 @@ impl From<AllocError> for PlanFault {
 }
 
 impl Plan {
-    /// Reads a plan: one line for each worker, of the letters `E` for an enqueue and `D` for a dequeue, with LF after
-    /// each line. The line of a worker without operations is empty.
+    /// Parses a plan: one line for each worker, of the letters `E` for an enqueue and `D` for a dequeue, with LF
+    /// after each line. The line of a worker without operations is empty.
     ///
     /// Takes time in proportion to the text, and memory in proportion to the plan.
     pub fn from_text(alloc: Global, text: &str) -> Result<Plan, PlanFault>
         ensures plan { IfOk result (λ plan. text.now ≡ text_of plan) }
         ensures fault { IfErr result (IsFaultOf text.now) }
 
-        // The fault is one that the text has. `Memory` comes for a plan's text, which can also be read.
+        // The fault is one that the text has. `Memory` comes only for the text of a plan, which may also be parsed.
         ensures exact { (fault : PlanFault) → IsFaultOf text.now fault
             → MatchResult result (λ _. fault ≡ PlanFault.Memory) (λ answer. answer ≡ fault) }
     {
@@ -66,7 +66,7 @@ impl Plan {
     }
 }
 
-// Returns why this text is no plan's.
+// Returns the fault of this text, if it isn't that of a plan.
 fn fault_of(text: &[u8]) -> Option<PlanFault>
     ensures { MatchOption result (IsPlanText text.now) (IsFaultOf text.now) }
 {
@@ -89,7 +89,7 @@ fn is_cut(text: &[u8]) -> bool
     text.last().is_some_and(|last| *last != LINE_FEED)
 }
 
-// Returns the worker of the first byte that is no letter and ends no line.
+// Returns the worker of the first byte that is neither a letter nor the end of a line.
 fn stray_worker(text: &[u8]) -> Option<usize>
     ensures { MatchOption result ((workers : ℕ) × HasLines text.now workers) (HasStray text.now) }
 {
@@ -114,7 +114,7 @@ fn kind_of_letter(byte: u8) -> Option<Kind>
     }
 }
 
-// Whether the rows of a text are a plan's.
+// Returns whether the rows of a text are those of a plan.
 fn is_within_limits(text: &[u8]) -> bool
     ensures { (rows : List (List Kind)) → text.now ≡ text_of rows → (IsTrue result ↔ IsPlan rows) }
 {
@@ -141,7 +141,7 @@ fn has_short_lines(text: &[u8]) -> bool
         .all(|line| line.len() as u64 <= MAX_THREAD_OPERATIONS)
 }
 
-// Reads the rows of a text.
+// Parses the rows of a text.
 fn read_rows(alloc: Global, text: &[u8]) -> Result<Vec<Row>, AllocError>
     requires { (rows : List (List Kind)) × (text.now ≡ text_of rows) }
     ensures { IfOk result (λ rows. text.now ≡ text_of rows.items) }

@@ -2,6 +2,6 @@
 use Rattle.std.specs.Prelude.{ℕ, List, map}
 use Rattle.event_rings.specs.Ring.{RingName, TokenView}
 
--- which rings these tokens close, and of which threads
+-- the rings that these tokens close, with their threads
 abbrev pub rings_of_tokens : List TokenView → List (RingName × ℕ)
 rings_of_tokens tokens = map (λ t. (t.ring, t.thread)) tokens

@@ -10,7 +10,7 @@ with_first_four app =
     with_subcommand (with_subcommand (with_subcommand (with_subcommand app (the_deciding (codes "check"))) (the_deciding (codes "shrink")))
     the_verify) the_draw
 
--- with the last five too
+-- the program with the last five subcommands too
 abbrev pub with_last_five : App → App
 with_last_five app =
     with_subcommand (with_subcommand (with_subcommand (with_subcommand (with_subcommand app (new_shape (codes "convert"))) the_complete)
@@ -22,7 +22,7 @@ with_plan app =
     with_rule (with_rule (with_rule (with_rule app queue_rule) (number_rule (codes "threads") 1 MAX_WORKERS (codes "2")))
     (number_rule (codes "ops") 0 MAX_THREAD_OPERATIONS (codes "1000"))) (number_rule (codes "seed") 0 MAX_SEED (codes "1"))
 
--- with the last four too
+-- `stress` with the last four options too
 abbrev pub with_sizes : App → App
 with_sizes app =
     with_rule (with_rule (with_rule (with_rule app (number_rule (codes "percent") 0 100 (codes "50")))

@@ -1,9 +1,9 @@
--- What a request that is answered has.
+-- The properties of a request that can be answered.
 use Rattle.std.specs.Prelude.{◌≡◌, ◌⊎◌, List, Option, Some, None, codes}
 use Rattle.clap.specs.Walk.{Row, Text}
 use Rattle.command_words.specs.Inner.Options.{HasDistance, HasSettings}
 
--- a subcommand of the program was met, and its numbers are there and in their ranges
+-- a subcommand of the program is matched, and has its numbers in their ranges
 abbrev pub IsAnswerable : Option (Text × List Row) → Type 0
 IsAnswerable None = ⊥
 IsAnswerable (Some p) = (p.0 ≡ codes "check") ⊎ (p.0 ≡ codes "shrink") ⊎ (p.0 ≡ codes "verify")

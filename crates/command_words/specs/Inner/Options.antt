@@ -1,21 +1,21 @@
--- What the words of an option are read for.
+-- The values of options, as the parser has checked them.
 use Rattle.std.specs.Prelude.{ℕ, List, IsSome, IsSomeAnd, codes}
 use Rattle.clap.specs.Values.{IsUnsignedIn}
 use Rattle.clap.specs.Walk.{Row, Text, first_of}
 use Rattle.event_records.specs.declared.limits.TheConstants.{MAX_RING, MAX_SEED, MAX_STRESS_INITIAL, MAX_THREAD_OPERATIONS, MAX_WORKERS, MIN_RING}
 use Rattle.command_words.specs.declared.options.TheConstants.{MAX_AROUND}
 
--- ---- what the parse has checked
+-- ---- checks of the parser
 
 -- the option has a text, which is a number from low to high
 abbrev pub HasNumber : Text → ℕ → ℕ → List Row → Type 0
 HasNumber id low high rows = IsSomeAnd (first_of id rows) (IsUnsignedIn low high)
 
--- the distance of `draw` is there and in its range
+-- the distance of `draw` is given and in its range
 abbrev pub HasDistance : List Row → Type 0
 HasDistance rows = HasNumber (codes "around") 0 MAX_AROUND rows
 
--- the queue's name is there, and each number is in its range
+-- the name of the queue is given, and each number is in its range
 pub record HasSettings (rows : List Row) : Type 0 where
   pub queue : IsSome (first_of (codes "queue") rows)
   pub threads : HasNumber (codes "threads") 1 MAX_WORKERS rows

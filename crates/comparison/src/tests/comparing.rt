@@ -1,4 +1,4 @@
-//! The answers about one history beside those of plain scans.
+//! The answers about one history, compared with those of plain scans.
 
 use crate::tests::plain_gaps::{PlainWitness, plain_cover, plain_gap, plain_witness};
 use crate::tests::plain_order::plain_linearization;
@@ -12,10 +12,10 @@ use std::test::Fail;
 use value_match::{CoverStep, Matched, MatchedValue, Matching, Values, Violation, match_values};
 use verdicts::{Claimed, Verdict, ViolationKind, claim, decide};
 
-/// The kind of a history's violation, and which answer differs.
+/// The kind of a history's violation, and the name of an answer that differs.
 pub(crate) type Compared = (Option<ViolationKind>, Option<&'static str>);
 
-/// The kind of violation that is claimed, if one is.
+/// Returns the kind of the claimed violation, if one is claimed.
 pub(crate) fn kind_of(claimed: &Claimed) -> Option<ViolationKind> {
     match claimed {
         Claimed::Yes(_) => None,
@@ -23,7 +23,7 @@ pub(crate) fn kind_of(claimed: &Claimed) -> Option<ViolationKind> {
     }
 }
 
-/// Which answer about a history of this verdict differs from that of plain scans, if one does.
+/// Returns the name of an answer about a history of this verdict that differs from that of plain scans, if one does.
 fn difference(
     rt: &impl AllocGlobal,
     history: &History,
@@ -42,14 +42,15 @@ fn difference(
     })
 }
 
-/// The kind of a history's violation, if it has one, and which answer differs from that of plain scans, if one does.
+/// Returns the kind of a history's violation, if it has one, and the name of an answer that differs from that of
+/// plain scans, if one does.
 pub(crate) fn compare(rt: &impl AllocGlobal, history: &History) -> Result<Compared, Fail> {
     let verdict = decide(rt.alloc(), history)?;
     let kind = kind_of(&claim(rt.alloc(), history, &verdict)?);
     Ok((kind, difference(rt, history, &verdict, kind)?))
 }
 
-/// Which answer about a matching differs from that of plain scans, if one does.
+/// Returns the name of an answer about a matching that differs from that of plain scans, if one does.
 fn difference_of_clear(
     rt: &impl AllocGlobal,
     matching: &Matching,
@@ -59,7 +60,7 @@ fn difference_of_clear(
     difference_among(rt, matching, &values, verdict)
 }
 
-/// The same, by the values that a plain scan finds.
+/// Does so, by the values that a plain scan finds.
 fn difference_among(
     rt: &impl AllocGlobal,
     matching: &Matching,
@@ -81,7 +82,7 @@ fn difference_among(
     })
 }
 
-/// Whether these are the values that a plain scan finds.
+/// Returns whether these are the values that a plain scan finds.
 fn are_same_values(values: &Values, plain: &[MatchedValue]) -> bool {
     if values.len() != plain.len() {
         return false;
@@ -94,7 +95,7 @@ fn are_same_values(values: &Values, plain: &[MatchedValue]) -> bool {
     true
 }
 
-/// Whether what is found of all empty answers is what plain scans find.
+/// Returns whether the sweep and plain scans find the same of all empty dequeues.
 fn are_same_windows(
     alloc: Global,
     matching: &Matching,
@@ -117,7 +118,7 @@ fn is_same_witness(found: &WitnessAnswer, plain: &PlainWitness) -> bool {
     }
 }
 
-/// Whether what is found of the window of each empty answer is what plain scans find.
+/// Returns whether the sweep and plain scans find the same of the window of each empty dequeue.
 fn are_same_gaps(
     alloc: Global,
     matching: &Matching,
@@ -134,7 +135,7 @@ fn are_same_gaps(
     Ok(true)
 }
 
-/// Whether plain scans find this of the window of an empty answer.
+/// Returns whether plain scans find the same of the window of an empty dequeue.
 fn is_same_gap(
     alloc: Global,
     matching: &Matching,
@@ -154,7 +155,7 @@ fn is_same_gap(
     }
 }
 
-/// Whether the verdict is what plain scans find.
+/// Returns whether the verdict is that of plain scans.
 fn is_same_verdict(
     alloc: Global,
     matching: &Matching,
@@ -167,7 +168,7 @@ fn is_same_verdict(
     }
 }
 
-/// The same, if no value overtakes another.
+/// Does so, if no value overtakes another.
 fn is_same_without_pair(
     alloc: Global,
     matching: &Matching,

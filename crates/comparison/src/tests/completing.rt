@@ -1,4 +1,4 @@
-//! The completion of a history with pending calls beside each of its completions.
+//! Compares the completion of a history with pending calls with each of its completions.
 
 use crate::tests::pending_calls::{initial_values, seeded_events};
 use crate::tests::plain_completions::{is_linearizable, is_some_linearizable, pending_calls};
@@ -9,17 +9,17 @@ use std::alloc::{AllocError, Global};
 use std::process::Abort;
 use std::test::Fail;
 
-/// The histories that are made.
+/// The number of histories made.
 const SEEDS: u64 = 8_000;
 
-/// The histories with pending calls, and those of them that have a linearization.
+/// The number of histories with pending calls, and of those among them that have a linearization.
 #[derive(Clone, Copy, Debug, Default)]
 struct Tried {
     pending: u32,
     linearizable: u32,
 }
 
-/// These events, packed.
+/// Returns these events, packed.
 fn packed(alloc: Global, events: &[Event]) -> Result<Vec<PackedEvent>, Fail> {
     let mut packed = Vec::new(alloc);
     for event in events {
@@ -35,8 +35,8 @@ fn unpacked(alloc: Global, events: &[PackedEvent]) -> Result<Vec<Event>, AllocEr
     events.iter().map(|event| event.unpack()).collect(alloc)
 }
 
-/// Whether the history of a seed has a linearization by `complete`, by each completion, and the number of its pending
-/// calls.
+/// Returns whether the history of a seed has a linearization by `complete`, whether one of its completions has one,
+/// and the number of its pending calls.
 fn compared(alloc: Global, seed: u64) -> Result<(bool, bool, usize), Fail> {
     let initial = initial_values(alloc, seed)?;
     let events = seeded_events(alloc, seed, &initial)?;

@@ -1,4 +1,4 @@
-//! Histories that the recorder's machine makes from seeded words.
+//! Histories that the recorder's machine makes by seeded words.
 ghost use Rattle.std.specs.Prelude.{◌≡◌, ◌≤◌, ◌<◌, IfOk, length};
 
 use event_records::{Event, LEAST_INITIAL_NAME, MAX_EVENTS, MAX_INITIAL};
@@ -7,19 +7,19 @@ use recorder_core::{Answer, Done, Machine, Step, StepRefused, are_initial_names}
 use std::alloc::{AllocError, Global};
 use std::test::Fail;
 
-/// The threads of a small history's machine.
+/// The number of threads of a small history's machine.
 const FEW_THREADS: u8 = 3;
 
-/// The most operations of a small history.
+/// The maximum number of operations of a small history.
 pub const MOST_OPERATIONS: u64 = 40;
 
-/// The moves of a small history's machine.
+/// The number of moves of a small history's machine.
 const MOVES: u32 = 400;
 
-/// The threads of a large history's machine.
+/// The number of threads of a large history's machine.
 const MANY_THREADS: u8 = 4;
 
-/// Words for tests, one after another: the shifts of Marsaglia's xorshift.
+/// A generator of words for tests: Marsaglia's xorshift.
 #[derive(Clone, Copy)]
 pub struct Words {
     last: u64,
@@ -32,7 +32,7 @@ impl Words {
         }
     }
 
-    /// The next word, below the limit.
+    /// Returns the next word, reduced below the limit.
     pub(crate) fn below(&mut self, limit: u64) -> u64
         requires { 0 < limit }
         ensures { result < limit }
@@ -44,15 +44,15 @@ impl Words {
     }
 }
 
-/// What a small history is like: how often, of ten times, an operation gets an answer that the queue didn't give, and
-/// how many values the queue holds at first.
+/// The parameters of small histories: how many of ten operations get an answer that the queue didn't give, and the
+/// number of initial values.
 #[derive(Clone, Copy)]
 pub struct Sort {
     pub lies: u64,
     pub first: u8,
 }
 
-/// The name of a value that a thread may enqueue, or that the queue may hold first.
+/// Returns the name of a value that a thread may enqueue, or of an initial one.
 fn named(words: &mut Words, first: u8) -> u64 {
     let of = words.below(3 + u64::from(first));
     if of < 3 {
@@ -62,7 +62,7 @@ fn named(words: &mut Words, first: u8) -> u64 {
     }
 }
 
-/// An answer that an operation gets.
+/// Returns an answer for an operation.
 fn told(words: &mut Words, first: u8) -> Answer {
     match words.below(12) {
         0 => Answer::Not,
@@ -72,7 +72,7 @@ fn told(words: &mut Words, first: u8) -> Answer {
     }
 }
 
-/// One step of a thread.
+/// Returns a step of a thread.
 fn chosen_step(words: &mut Words, sort: Sort, thread: u8) -> Step {
     match words.below(6) {
         0 => Step::AskEnq(thread),
@@ -83,7 +83,7 @@ fn chosen_step(words: &mut Words, sort: Sort, thread: u8) -> Step {
     }
 }
 
-/// Takes a step, then the push and the drain that it may need. The answer is that of the step.
+/// Takes a step, then the push and the drain that it may need. Returns the answer of the step.
 fn take(machine: &mut Machine, step: Step, thread: u8) -> Result<Done, StepRefused>
     ensures { length machine.new.threads ≡ length machine.old.threads }
 {
@@ -93,7 +93,7 @@ fn take(machine: &mut Machine, step: Step, thread: u8) -> Result<Done, StepRefus
     done
 }
 
-/// Whether the step begins an operation, if it is taken.
+/// Returns whether the step begins an operation, if it is taken.
 fn is_ask(step: Step) -> bool {
     match step {
         Step::AskEnq(_) | Step::AskDeq(_) => true,
@@ -101,8 +101,8 @@ fn is_ask(step: Step) -> bool {
     }
 }
 
-/// Takes seeded steps, which begin no more operations than these. Returns whether one of them gave an answer of its
-/// own.
+/// Takes seeded steps, which begin no more operations than `most`. Returns whether one of them gave an answer that
+/// the queue didn't give.
 fn move_on(machine: &mut Machine, words: &mut Words, sort: Sort, most: u64) -> bool
     ensures { length machine.new.threads ≡ length machine.old.threads }
 {
@@ -122,7 +122,7 @@ fn move_on(machine: &mut Machine, words: &mut Words, sort: Sort, most: u64) -> b
     is_told
 }
 
-/// Ends what the threads have begun.
+/// Ends the operations that the threads have begun.
 fn end_all(machine: &mut Machine, threads: u8)
     ensures { length machine.new.threads ≡ length machine.old.threads }
 {
@@ -132,14 +132,15 @@ fn end_all(machine: &mut Machine, threads: u8)
     }
 }
 
-/// This many values that a queue may hold at first.
+/// Returns `count` initial values.
 fn first_values(alloc: Global, count: u8) -> Result<Vec<u64>, AllocError> {
     (0..u64::from(count))
         .map(|place| LEAST_INITIAL_NAME + 3 + place)
         .collect(alloc)
 }
 
-/// The history that a machine has collected after seeded steps, if one of these told an answer.
+/// Returns the history that a machine has collected after seeded steps, if one of these gave an answer that the queue
+/// didn't give.
 pub(crate) fn seeded_history(
     alloc: Global,
     seed: u64,
@@ -161,7 +162,7 @@ pub(crate) fn seeded_history(
     Ok(Some(collected_history(alloc, &machine, FEW_THREADS, first)?))
 }
 
-/// The history of what was collected of all threads, of a queue that held these values first.
+/// Returns the history of the events collected from all threads, of a queue with these initial values.
 fn collected_history(
     alloc: Global,
     machine: &Machine,
@@ -181,7 +182,7 @@ fn collected_history(
     Ok(history_from(alloc, first, &events)?)
 }
 
-/// What all threads ask in this round: two rounds of enqueues, then two of dequeues.
+/// Returns the call of a thread in this round: two rounds of enqueues, then two of dequeues.
 fn round_step(round: u64, thread: u8) -> Step {
     if round % 4 < 2 {
         Step::AskEnq(thread)
@@ -190,7 +191,7 @@ fn round_step(round: u64, thread: u8) -> Step {
     }
 }
 
-/// One operation of each thread, all begun before the first ends.
+/// Runs one operation of each thread, all begun before the first ends.
 fn take_round(machine: &mut Machine, round: u64, threads: u8)
     ensures { length machine.new.threads ≡ length machine.old.threads }
 {
@@ -200,7 +201,7 @@ fn take_round(machine: &mut Machine, round: u64, threads: u8)
     end_all(machine, threads);
 }
 
-/// An honest history of this many rounds, the first of which has this number.
+/// Returns a history of `rounds` rounds that the queue answered, the first of which has the number `first`.
 pub(crate) fn honest_history(alloc: Global, first: u64, rounds: u64) -> Result<History, Fail> {
     let mut machine = Machine::new(alloc, usize::from(MANY_THREADS), 4)?;
     for round in 0..rounds {
@@ -209,7 +210,7 @@ pub(crate) fn honest_history(alloc: Global, first: u64, rounds: u64) -> Result<H
     collected_history(alloc, &machine, MANY_THREADS, Vec::new(alloc))
 }
 
-/// One operation of a thread, from its ask to its return.
+/// Runs one operation of a thread, from its call to its return.
 fn operate(machine: &mut Machine, ask: Step, thread: u8)
     ensures { length machine.new.threads ≡ length machine.old.threads }
 {
@@ -218,7 +219,8 @@ fn operate(machine: &mut Machine, ask: Step, thread: u8)
     let _ = take(machine, Step::Ret(thread), thread);
 }
 
-/// A history with one empty dequeue, around this many values, each of which is dequeued only after the next is there.
+/// Returns a history with one empty dequeue, around this many values, each of which is dequeued only after the next
+/// is in the queue.
 pub(crate) fn covered_history(alloc: Global, values: u64) -> Result<History, Fail> {
     let mut machine = Machine::new(alloc, 2, 4)?;
     operate(&mut machine, Step::AskEnq(0), 0);

@@ -1,17 +1,17 @@
-//! Small histories with pending calls, made from seeded words.
+//! Small histories with pending calls, made by seeded words.
 ghost use Rattle.std.specs.Prelude.{◌<◌};
 
 use crate::tests::histories::Words;
 use event_records::{Event, LEAST_INITIAL_NAME, What};
 use std::alloc::{AllocError, Global};
 
-/// The threads of a history.
+/// The number of threads of a history.
 const THREADS: u64 = 4;
 
-/// The most events of a history.
+/// The maximum number of events of a history.
 const MOST_EVENTS: u64 = 16;
 
-/// What a thread does.
+/// The state of a thread.
 #[derive(Clone, Copy)]
 enum Doing {
     Nothing,
@@ -20,7 +20,7 @@ enum Doing {
     Answered(What),
 }
 
-/// A history that grows: what each thread does, and the values that the queue holds.
+/// A history under construction: its events, the state of each thread, and the values in the queue.
 #[derive(Drop)]
 struct Making {
     events: Vec<Event>,
@@ -29,7 +29,7 @@ struct Making {
     enqueued: u64,
 }
 
-/// Takes the first value out, if there is one.
+/// Dequeues the first value, if there is one.
 fn taken(values: &mut Vec<u64>) -> What {
     if values.is_empty() {
         What::RetEmpty
@@ -38,7 +38,7 @@ fn taken(values: &mut Vec<u64>) -> What {
     }
 }
 
-/// What the queue does for a thread, if it hasn't yet.
+/// Performs the pending operation of a thread on the queue, if it isn't performed yet.
 fn effect(doing: Doing, values: &mut Vec<u64>) -> Result<Doing, AllocError> {
     Ok(match doing {
         Doing::Enqueueing(value) => {
@@ -50,7 +50,7 @@ fn effect(doing: Doing, values: &mut Vec<u64>) -> Result<Doing, AllocError> {
     })
 }
 
-/// An answer that the queue didn't give, now and then.
+/// Returns the answer, or now and then one that the queue didn't give.
 fn told(words: &mut Words, what: What, enqueued: u64) -> What {
     if words.below(6) > 0 {
         return what;
@@ -62,7 +62,7 @@ fn told(words: &mut Words, what: What, enqueued: u64) -> What {
     }
 }
 
-/// What a thread that does nothing begins, with the event of its call.
+/// Returns the operation that an idle thread begins, with the event of its call.
 fn begun(words: &mut Words, enqueued: u64) -> (Doing, What) {
     if words.below(2) == 0 {
         (Doing::Enqueueing(enqueued), What::CallEnq(enqueued))
@@ -72,7 +72,7 @@ fn begun(words: &mut Words, enqueued: u64) -> (Doing, What) {
 }
 
 impl Making {
-    /// A history without events, of a queue that holds these values.
+    /// Returns a history without events, of a queue with these initial values.
     fn new(alloc: Global, values: Vec<u64>) -> Making {
         Making {
             events: Vec::new(alloc),
@@ -82,7 +82,7 @@ impl Making {
         }
     }
 
-    /// Notes an event of the thread.
+    /// Appends an event of the thread.
     fn note(&mut self, thread: u8, what: What) -> Result<(), AllocError> {
         let ticket = self.events.len() as u64;
         self.events.push(Event {
@@ -93,7 +93,7 @@ impl Making {
         Ok(())
     }
 
-    /// A thread calls, is given an answer, or returns.
+    /// Takes a step of one thread, which calls, is given an answer, or returns.
     fn step(&mut self, words: &mut Words) -> Result<(), AllocError> {
         let place = words.below(THREADS) as usize;
         let thread = place as u8;
@@ -119,14 +119,14 @@ impl Making {
     }
 }
 
-/// The values that a queue holds first: up to two.
+/// Returns up to two initial values.
 pub(crate) fn initial_values(alloc: Global, seed: u64) -> Result<Vec<u64>, AllocError> {
     (0..seed % 3)
         .map(|place| LEAST_INITIAL_NAME + place)
         .collect(alloc)
 }
 
-/// The events of this seed, of a queue that holds these values first.
+/// Returns the events of this seed, of a queue with these initial values.
 pub(crate) fn seeded_events(
     alloc: Global,
     seed: u64,

@@ -1,4 +1,4 @@
-//! Each completion of a small history with pending calls.
+//! All completions of a small history with pending calls.
 ghost use Rattle.std.specs.Prelude.{◌<◌};
 
 use event_records::{Event, MAX_EVENTS, MAX_INITIAL, What};
@@ -7,13 +7,13 @@ use std::alloc::{AllocError, Global};
 use std::test::Fail;
 use verdicts::{Verdict, decide};
 
-/// Whether the event is the last of its thread, and a call.
+/// Returns whether the event is a call and the last event of its thread.
 fn is_pending(events: &[Event], event: Event) -> bool {
     matches!(event.what, What::CallEnq(_) | What::CallDeq)
         && !events.iter().any(|other| other.thread == event.thread && other.ticket > event.ticket)
 }
 
-/// The pending calls.
+/// Returns the pending calls.
 pub(crate) fn pending_calls(alloc: Global, events: &[Event]) -> Result<Vec<Event>, AllocError> {
     let mut calls = Vec::new(alloc);
     for event in events {
@@ -24,7 +24,7 @@ pub(crate) fn pending_calls(alloc: Global, events: &[Event]) -> Result<Vec<Event
     Ok(calls)
 }
 
-/// Initial values, and those that calls enqueue.
+/// Returns the initial values, and those that calls enqueue.
 fn all_values(alloc: Global, initial: &[u64], events: &[Event]) -> Result<Vec<u64>, AllocError> {
     let mut values = initial.to_vec(alloc)?;
     for event in events {
@@ -35,7 +35,7 @@ fn all_values(alloc: Global, initial: &[u64], events: &[Event]) -> Result<Vec<u6
     Ok(values)
 }
 
-/// The number of ways in which a pending call may have ended.
+/// Returns the number of ways in which a pending call may have ended.
 fn ways(call: Event, values: &[u64]) -> u64
     ensures { 0 < result }
 {
@@ -45,7 +45,7 @@ fn ways(call: Event, values: &[u64]) -> u64
     }
 }
 
-/// The number of ways in which all may have ended.
+/// Returns the number of ways in which all calls may have ended.
 fn all_ways(calls: &[Event], values: &[u64]) -> u64 {
     let mut product = 1u64;
     for call in calls {
@@ -54,7 +54,7 @@ fn all_ways(calls: &[Event], values: &[u64]) -> u64 {
     product
 }
 
-/// How a call ended in this way; none if it is left out.
+/// Returns the end of a call in this way, or none if the call is left out.
 fn ended(call: Event, values: &[u64], way: u64) -> Option<What> {
     match (call.what, way) {
         (_, 0) => None,
@@ -67,7 +67,7 @@ fn ended(call: Event, values: &[u64], way: u64) -> Option<What> {
     }
 }
 
-/// How all ended in this way: the returns after the last event.
+/// Returns the ends of all calls in this way, as returns after the last event.
 fn returns(
     alloc: Global,
     calls: &[Event],
@@ -93,7 +93,7 @@ fn returns(
     Ok(made)
 }
 
-/// The completion with these returns.
+/// Returns the completion with these returns.
 fn completed(
     alloc: Global,
     events: &[Event],
@@ -111,7 +111,7 @@ fn completed(
     Ok(full)
 }
 
-/// Whether these events have a linearization.
+/// Returns whether these events have a linearization.
 pub(crate) fn is_linearizable(
     alloc: Global,
     initial: &[u64],
@@ -124,7 +124,7 @@ pub(crate) fn is_linearizable(
     Ok(matches!(decide(alloc, &history)?, Verdict::Yes(_)))
 }
 
-/// Whether some completion has a linearization.
+/// Returns whether some completion has a linearization.
 pub(crate) fn is_some_linearizable(
     alloc: Global,
     initial: &[u64],

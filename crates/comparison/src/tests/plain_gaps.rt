@@ -1,4 +1,4 @@
-//! Free gaps and covers, by scans of all values.
+//! Free gaps and covers, found by scans of all values.
 
 use crate::tests::plain_values::time_of;
 use history_merge::{OpId, OpKind, Operation, Operations};
@@ -6,17 +6,18 @@ use std::alloc::{AllocError, Global};
 use std::test::Fail;
 use value_match::{CoverStep, Life, MatchedValue};
 
-/// Whether the value is definitely in the queue at this time.
+/// Returns whether the value is in the queue definitely at this time.
 fn covers(life: &Life, time: u64) -> bool {
     life.enqueue_return() <= time && time < life.dequeue_call()
 }
 
-/// Whether no value is definitely in the queue at this gap.
+/// Returns whether no value is in the queue definitely at this gap.
 fn is_free(values: &[MatchedValue], gap: u64) -> bool {
     !values.iter().any(|value| covers(&value.life, time_of(gap)))
 }
 
-/// The least free gap of a window, looked for at its call and at each ticket of an operation in it.
+/// Returns the least free gap of a window. Only the window's call and the tickets of operations in the window are
+/// tried.
 pub(crate) fn plain_gap(
     operations: &Operations,
     values: &[MatchedValue],
@@ -34,7 +35,7 @@ pub(crate) fn plain_gap(
     least
 }
 
-/// Whether one value leaves after the other, or both never and it entered before the other.
+/// Returns whether the first value leaves after the second, or neither leaves and the first entered earlier.
 fn is_longer(life: &Life, other: &Life) -> bool {
     let leaves = life.dequeue_call();
     let other_leaves = other.dequeue_call();
@@ -42,7 +43,7 @@ fn is_longer(life: &Life, other: &Life) -> bool {
         || (other_leaves == leaves && life.enqueue_return() < other.enqueue_return())
 }
 
-/// The longer of two values, if there is one so far.
+/// Returns the longer of two values, or the second if there is no first.
 fn longer_of(so_far: Option<MatchedValue>, value: MatchedValue) -> MatchedValue {
     match so_far {
         None => value,
@@ -56,7 +57,8 @@ fn longer_of(so_far: Option<MatchedValue>, value: MatchedValue) -> MatchedValue 
     }
 }
 
-/// Of the values that entered before the frontier the one that stays longest, of those that never leave the first.
+/// Returns the value that stays longest among those that entered before the frontier. Among values that never leave,
+/// this is the first.
 fn longest_before(values: &[MatchedValue], frontier: u64) -> Option<MatchedValue> {
     let mut longest: Option<MatchedValue> = None;
     for value in values {
@@ -67,7 +69,7 @@ fn longest_before(values: &[MatchedValue], frontier: u64) -> Option<MatchedValue
     longest
 }
 
-/// The cover of a window, value by value; none if it isn't covered.
+/// Returns the cover of a window, value by value, or none if the window isn't covered.
 pub(crate) fn plain_cover(
     alloc: Global,
     values: &[MatchedValue],
@@ -91,16 +93,16 @@ pub(crate) fn plain_cover(
     Ok(None)
 }
 
-/// What plain scans find of all empty answers.
+/// The result of plain scans about all empty dequeues.
 #[derive(Drop)]
 pub enum PlainWitness {
-    /// The least free gap of each.
+    /// The least free gap of each one.
     Gaps(Vec<u64>),
-    /// The covered one that returned first, with its cover.
+    /// The first covered one by return, with its cover.
     Covered(OpId, Vec<CoverStep>),
 }
 
-/// The least free gap of each empty answer that has one.
+/// Returns the least free gap of each empty dequeue that has one.
 fn free_gaps(
     alloc: Global,
     operations: &Operations,
@@ -118,7 +120,7 @@ fn free_gaps(
     Ok(gaps)
 }
 
-/// The covered empty answer that returned first, with its place, if one is covered.
+/// Returns the first covered empty dequeue by return with its place, if one is covered.
 fn first_covered(operations: &Operations, values: &[MatchedValue]) -> Option<(OpId, Operation)> {
     let mut first = None;
     let mut least = u64::MAX;
@@ -132,7 +134,7 @@ fn first_covered(operations: &Operations, values: &[MatchedValue]) -> Option<(Op
     first
 }
 
-/// The least free gap of each empty answer, or the covered one that returned first with its cover.
+/// Returns the least free gap of each empty dequeue, or the first covered one by return with its cover.
 pub(crate) fn plain_witness(
     alloc: Global,
     operations: &Operations,

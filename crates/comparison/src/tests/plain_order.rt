@@ -1,27 +1,27 @@
-//! The chosen order of all operations: the choice among all remaining values at each step, and a sort by position.
+//! The chosen order of all operations: a choice among all remaining values at each step, and a sort by position.
 
 use crate::tests::plain_values::time_of;
 use history_merge::{OpId, OpKind, Operations};
 use std::alloc::{AllocError, Global};
 use value_match::{Life, MatchedValue, Source};
 
-/// Where an operation stands: its gap, the class within the gap, and the rank within the class.
+/// The position of an operation: its gap, the class within the gap, and the rank within the class.
 type Position = (u64, u8, u64);
 
-/// Returns when the value is definitely enqueued.
+/// Returns the time by which the value is definitely enqueued.
 fn entered_by(life: &Life) -> u64 {
     life.enqueue_return().min(life.dequeue_return())
 }
 
-/// Before which call it has not left.
+/// Returns the time before which the value has not left.
 fn leaves_from(life: &Life) -> u64 {
     life.dequeue_call().max(life.enqueue_call())
 }
 
-/// A value with its place among those that remain.
+/// A value with its place among the remaining ones.
 type Placed = (usize, MatchedValue);
 
-/// Returns the one of two values that is definitely enqueued first.
+/// Returns the value, of these two, that is definitely enqueued first.
 fn first_entered(so_far: Option<Placed>, next: Placed) -> Placed {
     match so_far {
         None => next,
@@ -35,7 +35,7 @@ fn first_entered(so_far: Option<Placed>, next: Placed) -> Placed {
     }
 }
 
-/// The one of two values that is dequeued first.
+/// Returns the value, of these two, that is dequeued first.
 fn first_dequeued(so_far: Option<Placed>, next: Placed) -> Placed {
     match so_far {
         None => next,
@@ -49,7 +49,7 @@ fn first_dequeued(so_far: Option<Placed>, next: Placed) -> Placed {
     }
 }
 
-/// The place of the next value among those that remain.
+/// Returns the place of the next value among the remaining ones.
 fn choice(remaining: &[MatchedValue]) -> Option<usize> {
     let mut first_in: Option<Placed> = None;
     let mut first_out: Option<Placed> = None;
@@ -66,7 +66,7 @@ fn choice(remaining: &[MatchedValue]) -> Option<usize> {
     }
 }
 
-/// The values in their chosen order.
+/// Returns the values in their chosen order.
 fn ordered(alloc: Global, values: &[MatchedValue]) -> Result<Vec<MatchedValue>, AllocError> {
     let mut remaining = values.to_vec(alloc)?;
     let mut order = Vec::new(alloc);
@@ -90,7 +90,7 @@ fn entry_gap(rest: &[MatchedValue]) -> u64 {
     least.saturating_sub(1)
 }
 
-/// The enqueue that a value comes from, if it comes from one.
+/// Returns the enqueue of a value, if it has one.
 fn enqueue_of(source: Source) -> Option<OpId> {
     match source {
         Source::Enq(id) => Some(id),
@@ -98,7 +98,7 @@ fn enqueue_of(source: Source) -> Option<OpId> {
     }
 }
 
-/// The positions of the operations of the accepted values.
+/// Returns the positions of the operations of the enqueued values.
 fn value_positions(
     alloc: Global,
     order: &[MatchedValue],
@@ -141,7 +141,7 @@ fn place_others(
     Ok(())
 }
 
-/// The chosen order of all operations, if each empty dequeue has its gap.
+/// Returns the chosen order of all operations, if each empty dequeue has its gap.
 pub(crate) fn plain_linearization(
     alloc: Global,
     operations: &Operations,

@@ -1,4 +1,4 @@
-//! Values dequeued against the order of their enqueues, by a scan of all pairs.
+//! Values that overtake others, found by a scan of all pairs.
 
 use order_violation::OrderPair;
 use value_match::MatchedValue;
@@ -6,14 +6,15 @@ use value_match::MatchedValue;
 /// Two values, of which the second may overtake the first.
 type Pair = (MatchedValue, MatchedValue);
 
-/// Whether b overtakes a.
+/// Returns whether `b` overtakes `a`.
 fn overtakes(a: &MatchedValue, b: &MatchedValue) -> bool {
     a.life.enqueue_return() < b.life.enqueue_call()
         && b.dequeue.is_some()
         && b.life.dequeue_return() < a.life.dequeue_call()
 }
 
-/// Whether one pair is chosen before the other: by the dequeue of b, then by that of a, then by the enqueue of a.
+/// Returns whether the first pair is chosen before the second: by the dequeue of b, then by that of a, then by the
+/// enqueue of a.
 fn is_before(pair: &Pair, other: &Pair) -> bool {
     let left = pair.1.life.dequeue_return();
     let other_left = other.1.life.dequeue_return();
@@ -26,7 +27,7 @@ fn is_before(pair: &Pair, other: &Pair) -> bool {
                     && pair.0.life.enqueue_return() < other.0.life.enqueue_return())))
 }
 
-/// The one of two pairs that is chosen.
+/// Returns the chosen one of two pairs.
 fn chosen_of(so_far: Option<Pair>, pair: Pair) -> Pair {
     match so_far {
         Some(other) if !is_before(&pair, &other) => other,
@@ -34,7 +35,7 @@ fn chosen_of(so_far: Option<Pair>, pair: Pair) -> Pair {
     }
 }
 
-/// The chosen pair, by a scan of all pairs.
+/// Returns the chosen pair, found by a scan of all pairs.
 pub(crate) fn plain_pair(values: &[MatchedValue]) -> Option<OrderPair> {
     let mut chosen: Option<Pair> = None;
     for a in values {

@@ -1,16 +1,16 @@
-//! The accepted values at their times, by a scan of all operations for the dequeue of each.
+//! The enqueued values at their times, found by a scan of all operations for the dequeue of each.
 
 use event_records::ORIGIN;
 use history_merge::{OpId, OpKind, Operation, Operations};
 use std::alloc::{AllocError, Global};
 use value_match::{Life, MatchedValue, Matching, Source};
 
-/// The time of a ticket.
+/// Returns the time of a ticket.
 pub(crate) fn time_of(ticket: u64) -> u64 {
     ticket.saturating_add(ORIGIN)
 }
 
-/// The operation at its times.
+/// Returns the operation at its times.
 fn timed(operation: Operation) -> Operation {
     Operation {
         call: time_of(operation.call),
@@ -19,7 +19,7 @@ fn timed(operation: Operation) -> Operation {
     }
 }
 
-/// The enqueue of an initial value, where this many are left with it.
+/// Returns the enqueue of an initial value that has `left` initial values from it on, itself included.
 fn initial_enqueue(left: usize, value: u64) -> Operation {
     let time = ORIGIN.saturating_sub(left as u64);
     Operation {
@@ -30,7 +30,7 @@ fn initial_enqueue(left: usize, value: u64) -> Operation {
     }
 }
 
-/// The value with this enqueue.
+/// Returns the value with this enqueue.
 fn plain_value(
     operations: &Operations,
     source: Source,
@@ -54,7 +54,7 @@ fn plain_value(
     plain
 }
 
-/// The initial values, and then those that are enqueued.
+/// Returns the initial values, and then those that are enqueued.
 pub(crate) fn plain_values(
     alloc: Global,
     matching: &Matching,

@@ -1,4 +1,4 @@
--- What a walk over the events keeps.
+-- The state of a walk over the events.
 use Rattle.std.specs.Prelude.{◌≡◌, ℕ, ◌<◌, ◌≤◌, ◌↔◌, List, [], Option, None, length, slice_index_or, Contains}
 use Rattle.std.specs.List.{last_or}
 use Rattle.event_records.specs.declared.event.Event.{Event}

@@ -1,4 +1,4 @@
--- What is known while one producer's selection after another is judged.
+-- The state while the selections of producers are judged one after another.
 use Rattle.std.specs.Prelude.{◌≡◌, ℕ, ◌<◌, List, All, filter, map, take}
 use Rattle.history_merge.specs.Initial.{Contents}
 use Rattle.verdicts.specs.Selection.{AreLinearizable}

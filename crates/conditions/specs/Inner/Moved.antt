@@ -1,4 +1,4 @@
--- A verdict by other places: of operations that stand at these places of a longer list.
+-- A verdict by other places: those of the operations in a longer list.
 use Rattle.std.specs.Prelude.{ℕ, List, map, option_map, slice_index_or}
 use Rattle.value_match.specs.declared.life.Source.{Source}
 use Rattle.value_match.specs.declared.life.Source.TheVariants.{Enq, Initial}
@@ -8,20 +8,20 @@ use Rattle.value_match.specs.declared.violation.Violation.TheVariants.{Fresh, Re
 use Rattle.claims.specs.declared.verdict.Verdict.{Verdict}
 use Rattle.claims.specs.declared.verdict.Verdict.TheVariants.{Yes, No}
 
--- the place that stands at this place; past the end, itself
+-- the entry of the places at this place; past the end, the place itself
 abbrev pub moved_place : List ℕ → ℕ → ℕ
 moved_place places p = slice_index_or places p p
 
--- the same of an enqueue; the places of initial values stay
+-- a source by other places; those of initial values stay
 abbrev pub moved_source : List ℕ → Source → Source
 moved_source places (Enq p) = Enq (moved_place places p)
 moved_source places (Initial p) = Initial p
 
--- the same of a value of a cover
+-- a value of a cover by other places
 abbrev pub moved_step : List ℕ → CoverStep → CoverStep
 moved_step places step = record { source = moved_source places step.source; dequeue = option_map (moved_place places) step.dequeue }
 
--- the same of a violation
+-- a violation by other places
 abbrev pub moved_violation : List ℕ → Violation → Violation
 moved_violation places (Fresh deq enq) = Fresh (moved_place places deq) (option_map (moved_place places) enq)
 moved_violation places (Repeat enq first second) = Repeat (moved_source places enq) (moved_place places first) (moved_place places second)
@@ -29,7 +29,7 @@ moved_violation places (Order enq_a enq_b deq_b deq_a) =
     Order (moved_source places enq_a) (moved_source places enq_b) (moved_place places deq_b) (option_map (moved_place places) deq_a)
 moved_violation places (Witness empty cover) = Witness (moved_place places empty) (map (moved_step places) cover)
 
--- the same of a verdict
+-- a verdict by other places
 abbrev pub moved_verdict : List ℕ → Verdict → Verdict
 moved_verdict places (Yes order) = Yes (map (moved_place places) order)
 moved_verdict places (No violation) = No (moved_violation places violation)

@@ -7,12 +7,12 @@ use Rattle.conditions.specs.declared.part.Part.{Part}
 use Rattle.conditions.specs.declared.producer.Producer.{Producer}
 use Rattle.conditions.specs.declared.producer.Producer.TheVariants.{Initial, Thread}
 
--- the initial values, and the operations at the places, are this selection of the history
+-- the initial values, and the operations at these places, are this selection of the history
 pub record AreSelected (whole : Contents) (values empties : ℕ → Bool) (initial places : List ℕ) : Type 0 where
   pub initial_values : initial ≡ filter values whole.initial
   pub operations : ArePlacesOf whole.operations places (filter (selects values empties) whole.operations)
 
--- these are the initial values and the operations of the part, which has some of the events, and the places of its operations in the whole
+-- the part has these initial values and operations, some of the events, and the places of its operations in the whole
 pub record IsPart (whole : HistoryView) (selected : Contents) (part : Part) : Type 0 where
   pub contents : contents_of part.history ≡ selected
   pub events : ArePartOf whole.events part.history.events

@@ -16,7 +16,7 @@ use Rattle.conditions.specs.declared.sharing.Share.{Share}
 use Rattle.conditions.specs.Conditions.{selection_of}
 use Rattle.conditions.specs.Inner.Producers.{AreProducers, goes_to, share_of}
 
--- the producer of this rank: its place among all producers
+-- the producer of this rank, its place among all producers
 abbrev pub ranked : ℕ → Producer
 ranked zero = Initial
 ranked (suc t) = Thread t
@@ -30,19 +30,20 @@ rank_of (Thread t) = suc t
 abbrev pub enqueues_in : ℕ → Operation → Bool
 enqueues_in t o = nat_eq o.thread t && is_some (enqueued_value o.kind)
 
--- the ranks of the initial values' producer and of the threads that these operations enqueue values in are marked
+-- the ranks of the initial values' producer and of the threads in which these operations enqueue values are marked
 pub record AreMarked (seen : List Operation) (used : List Bool) : Type 0 where
   pub one_each : length used ≡ PRODUCERS
   pub initial : slice_index_or used 0 false ≡ true
   pub threads : (t : ℕ) → t < MAX_THREADS → slice_index_or used (suc t) false ≡ list_any (enqueues_in t) seen
 
--- the place goes behind those of each producer in use to whose selection the operation belongs
+-- the place is added for each producer in use to whose selection the operation belongs
 pub record IsSharedOut (share : Share) (used : List Bool) (place : ℕ) (before after : List (List ℕ)) : Type 0 where
   pub one_each : length after ≡ length before
   pub each : (k : ℕ) → k < length before → slice_index_or used k false ≡ true
       → slice_index_or after k [] ≡ slice_index_or before k [] ++ (if goes_to (ranked k) share then place ∷ [] else [])
 
--- for each producer in use the places of its operations among the first ones, whoever the producers of these values are
+-- for each producer in use the places of its operations among the first ones, whatever the producers of these values
+-- are
 abbrev pub HasSharedOut : List Operation → ℕ → List Bool → List Produced → Emptiness → List (List ℕ) → Type 0
 HasSharedOut operations count used by_value emptiness buckets = (length buckets ≡ PRODUCERS)
     × ((whole : Contents) → AreProducers whole by_value → (k : ℕ) → k < PRODUCERS → slice_index_or used k false ≡ true

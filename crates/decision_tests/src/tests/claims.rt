@@ -1,4 +1,4 @@
-//! What verdicts claim.
+//! The claims of verdicts.
 
 use super::small_histories::{DEQUEUED_LATER, OVERLAPPING, Row, history_behind, is_row};
 use history_merge::OpKind::{Deq, Empty, Enq, Not};
@@ -10,7 +10,7 @@ use std::thread::Threads;
 use verdicts::ViolationKind::{VFresh, VOrd, VRepeat, VWit};
 use verdicts::{ClaimLine, Claimed, ViolationKind, claim, decide, decide_par, verify};
 
-/// Whether an operation stands in the line, as in the row.
+/// Returns whether the line lists the operation of the row.
 fn is_line(line: &ClaimLine, row: &Row) -> bool {
     match line {
         ClaimLine::Op(operation) => is_row(Some(*operation), Some(row)),
@@ -42,7 +42,7 @@ fn is_order(order: &[Operation], rows: &[Row]) -> bool {
     true
 }
 
-/// Whether this is claimed: the kind of a `NO`, if it is one, and what it lists.
+/// Returns whether the claim has this kind, if it is a `NO`, and lists these operations.
 fn is_claim(claimed: &Claimed, kind: Option<ViolationKind>, rows: &[Row]) -> bool {
     match claimed {
         Claimed::Yes(order) => kind.is_none() && is_order(order.as_slice(), rows),
@@ -52,7 +52,8 @@ fn is_claim(claimed: &Claimed, kind: Option<ViolationKind>, rows: &[Row]) -> boo
     }
 }
 
-/// What the verdict on a history claims, by a search in pieces if there are any.
+/// Returns the claim of the verdict on a history. The search runs in `pieces` pieces, or in one go if that number is
+/// no number of pieces.
 fn claimed_in<R: AllocGlobal + Threads + Sync>(
     rt: &R,
     history: &History,
@@ -67,7 +68,7 @@ fn claimed_in<R: AllocGlobal + Threads + Sync>(
     }
 }
 
-/// Whether the verdict claims this, and the claim is true.
+/// Returns whether the verdict claims this, and the claim is true.
 fn claims<R: AllocGlobal + Threads + Sync>(
     rt: &R,
     history: &History,
@@ -78,7 +79,7 @@ fn claims<R: AllocGlobal + Threads + Sync>(
     Ok(is_claim(&claimed, kind, rows) && verify(rt.alloc(), history, &claimed)?)
 }
 
-/// The first number of pieces in which the verdict on these operations doesn't claim this, if there is one.
+/// Returns the first number of pieces with which the verdict on these operations doesn't claim this, if there is one.
 fn wrong_pieces<R: AllocGlobal + Threads + Sync>(
     rt: &R,
     rows: &[Row],
@@ -93,7 +94,7 @@ fn wrong_pieces<R: AllocGlobal + Threads + Sync>(
     Ok(None)
 }
 
-/// Operations, the kind of violation if there is one, and what is claimed.
+/// Operations, the kind of their violation if there is one, and the operations of the claim.
 static CLAIMS: [(&[Row], Option<ViolationKind>, &[Row]); 6] = [
     (&[], None, &[]),
     (

@@ -1,4 +1,4 @@
-//! Completions of histories whose calls are pending, and why a history has none.
+//! Completions of histories with pending calls, and the reasons why a history has none.
 
 use super::small_histories::at;
 use completions::{CompletionFault, complete};
@@ -9,10 +9,10 @@ use packed_events::PackedEvent;
 use std::alloc::{AllocError, Global};
 use std::test::Fail;
 
-/// An event: its ticket, its thread, and what it is.
+/// An event: its ticket, its thread, and its kind.
 type Mark = (u64, u8, What);
 
-/// A pending enqueue whose value a dequeue gave, and a pending dequeue, for which the other value is left.
+/// A pending enqueue whose value was dequeued, and a pending dequeue, for which the other value is left.
 const TAKEN: &[Mark] = &[
     (0, 0, CallEnq(7)),
     (1, 0, RetEnq),
@@ -22,7 +22,7 @@ const TAKEN: &[Mark] = &[
     (5, 2, RetDeq(9)),
 ];
 
-/// Three pending dequeues, and a pending enqueue whose value no dequeue gave.
+/// Three pending dequeues, and a pending enqueue whose value no dequeue returned.
 const LEFT_OUT: &[Mark] = &[
     (0, 0, CallDeq),
     (1, 1, CallDeq),
@@ -30,7 +30,7 @@ const LEFT_OUT: &[Mark] = &[
     (3, 3, CallEnq(8)),
 ];
 
-/// Two enqueues that return in the other order, and two pending dequeues.
+/// Two enqueues that return in the opposite order, and two pending dequeues.
 const BY_RETURNS: &[Mark] = &[
     (0, 0, CallEnq(7)),
     (1, 1, CallEnq(9)),
@@ -40,13 +40,13 @@ const BY_RETURNS: &[Mark] = &[
     (5, 3, CallDeq),
 ];
 
-/// No call is pending.
+/// A history without pending calls.
 const COMPLETE: &[Mark] = &[(0, 0, CallDeq), (3, 0, RetEmpty)];
 
 /// A pending dequeue at the greatest ticket.
 const LATEST: &[Mark] = &[(999_999_999_999, 0, CallDeq)];
 
-/// Initial values and events; how many of the events are kept, the first ones; and the returns after them.
+/// Initial values and events, the number of events that are kept (the first ones), and the returns after them.
 static COMPLETED: [(&[u64], &[Mark], usize, &[Mark]); 6] = [
     (&[], TAKEN, 6, &[(6, 1, RetEnq), (7, 3, RetDeq(7))]),
     (
@@ -61,7 +61,7 @@ static COMPLETED: [(&[u64], &[Mark], usize, &[Mark]); 6] = [
     (&[], LATEST, 0, &[]),
 ];
 
-/// Initial values and events without a completion, and why.
+/// Initial values and events without a completion, and the reason.
 static REFUSED: [(&[u64], &[Mark], CompletionFault); 3] = [
     (&[5], LATEST, CompletionFault::Limit),
     (
@@ -76,7 +76,7 @@ static REFUSED: [(&[u64], &[Mark], CompletionFault); 3] = [
     ),
 ];
 
-/// The events of these marks.
+/// Returns the events of these marks.
 fn events_of(alloc: Global, marks: &[Mark]) -> Result<Vec<PackedEvent>, Fail> {
     let mut events = Vec::new(alloc);
     for (ticket, thread, what) in marks {
@@ -93,7 +93,7 @@ fn unpacked(alloc: Global, events: &[PackedEvent]) -> Result<Vec<Event>, AllocEr
     events.iter().map(|event| event.unpack()).collect(alloc)
 }
 
-/// The completion of these marks, or why there is none.
+/// Returns the completion of these marks, or the reason why there is none.
 fn completion_of(
     alloc: Global,
     initial: &[u64],
@@ -109,7 +109,7 @@ fn completion_of(
     }
 }
 
-/// Whether these are the first `kept` of some marks, and then the returns.
+/// Returns whether the events are the first `kept` marks, followed by the returns.
 fn are_completed(full: &[Event], marks: &[Mark], kept: usize, returns: &[Mark]) -> bool {
     let mut wanted = marks.iter().take(kept).chain(returns.iter());
     for event in full {

@@ -1,4 +1,4 @@
-//! Histories that are made of events, and what they show.
+//! Histories made of events, and what their methods return.
 ghost use Rattle.std.specs.Prelude.{◌≤◌, length, vec_len};
 
 use super::small_histories::{HIDDEN, OF_THREE, OF_TWO, OVERLAPPING, Row, are_rows, at, events_of};
@@ -8,7 +8,7 @@ use history_merge::{Clash, History, HistoryBuilder, HistoryFault, history, histo
 use std::alloc::{AllocError, Global};
 use std::test::Fail;
 
-/// What makes a history.
+/// A way to make a history.
 #[derive(Clone, Copy)]
 enum Maker {
     History,
@@ -16,7 +16,7 @@ enum Maker {
     Builder,
 }
 
-/// The history that a builder makes of these values and events.
+/// Makes a history of these values and events with a builder.
 fn gathered(alloc: Global, initial: Vec<u64>, events: &[Event]) -> Result<History, HistoryFault>
     requires initial { vec_len initial ≤ MAX_INITIAL }
     requires events { length events.now ≤ MAX_EVENTS }
@@ -28,7 +28,7 @@ fn gathered(alloc: Global, initial: Vec<u64>, events: &[Event]) -> Result<Histor
     builder.finish()
 }
 
-/// The history that is made of these values, if they are asked for, and events.
+/// Makes a history of these events in this way. Initial values are passed unless the way takes none.
 fn made(
     alloc: Global,
     maker: Maker,
@@ -45,7 +45,7 @@ fn made(
     }
 }
 
-/// What makes a history of a queue that starts with these values.
+/// Returns the ways to make a history of a queue with these initial values.
 fn makers(initial: &[u64]) -> [Maker; 2] {
     if initial.is_empty() {
         [Maker::History, Maker::Builder]
@@ -54,10 +54,10 @@ fn makers(initial: &[u64]) -> [Maker; 2] {
     }
 }
 
-/// An event: its ticket, its thread, and what it is.
+/// An event: its ticket, its thread, and its kind.
 type Mark = (u64, u8, What);
 
-/// Faults that no text shows, of initial values and events: tickets and threads above the greatest.
+/// Faults of initial values and events that no text can have: tickets and threads above the greatest.
 static FAULTS: [(&[u64], [Mark; 2], (&str, Option<u64>)); 6] = [
     (
         &[],
@@ -97,7 +97,7 @@ static FAULTS: [(&[u64], [Mark; 2], (&str, Option<u64>)); 6] = [
     ),
 ];
 
-/// The name and the place of the fault of these values and events, or another name.
+/// Returns the name and the place of the fault of these values and events, or another name.
 fn fault_of(
     alloc: Global,
     maker: Maker,
@@ -113,7 +113,7 @@ fn fault_of(
     }
 }
 
-/// Whether this is their fault, whatever makes the history.
+/// Returns whether this is their fault, for each way to make the history.
 fn has_fault(alloc: Global, initial: &[u64], marks: [Mark; 2], fault: (&str, Option<u64>)) -> bool {
     let events = marks.map(|(ticket, thread, what)| at(ticket, thread, what));
     if initial.len() > MAX_INITIAL {
@@ -131,7 +131,7 @@ fn names_the_first_fault(rt: HostRuntime) {
     }
 }
 
-/// Two events, and the tickets that contradict each other in them, if any do: one above the greatest contradicts none.
+/// Two events, and their contradictory tickets, if they have any. A ticket above the greatest contradicts none.
 static TICKETS: [([Mark; 2], Option<(u64, u64)>); 4] = [
     ([(4, 0, What::CallDeq), (5, 0, What::RetEmpty)], None),
     (
@@ -151,7 +151,7 @@ static TICKETS: [([Mark; 2], Option<(u64, u64)>); 4] = [
     ),
 ];
 
-/// The tickets that contradict each other.
+/// Returns the contradictory tickets.
 fn clashing_tickets(alloc: Global, marks: [Mark; 2]) -> Option<(u64, u64)> {
     let mut builder = HistoryBuilder::new(alloc, Vec::new(alloc));
     for (ticket, thread, what) in marks {
@@ -170,7 +170,7 @@ fn tickets_clash_that_do_not_rise(rt: HostRuntime) {
     }
 }
 
-/// The enqueue of the greatest value fails at the greatest tickets, and a dequeue overlaps it.
+/// A failed enqueue of the greatest value at the greatest tickets, and a dequeue that overlaps it.
 const GREATEST: &[Row] = &[
     (999_999_999_996, 999_999_999_998, 63, Not(u64::MAX)),
     (999_999_999_997, 999_999_999_999, 0, Empty),
@@ -188,7 +188,7 @@ static SHOWN: [Shown<'static>; 6] = [
     (&[5, 6], OF_TWO),
 ];
 
-/// Whether the history has these events.
+/// Returns whether the history has these events.
 fn are_events(history: &History, events: &[Event]) -> bool {
     let mut left = history.events();
     for event in events {
@@ -199,7 +199,7 @@ fn are_events(history: &History, events: &[Event]) -> bool {
     left.next().is_none()
 }
 
-/// What of the history that is made isn't as it should be; none if all is.
+/// Returns the name of a wrong part of the history, or none if all are right.
 fn wrong_part(alloc: Global, maker: Maker, shown: &Shown) -> Result<Option<&'static str>, Fail> {
     let (initial, rows) = *shown;
     let events = events_of(alloc, rows)?;
@@ -218,7 +218,7 @@ fn wrong_part(alloc: Global, maker: Maker, shown: &Shown) -> Result<Option<&'sta
     })
 }
 
-/// The same of the histories that all of them make.
+/// Does so for each way to make the history.
 fn wrong_in_any(alloc: Global, shown: &Shown) -> Result<Option<&'static str>, Fail> {
     let [one, other] = makers(shown.0);
     let wrong = wrong_part(alloc, one, shown)?;
@@ -237,7 +237,7 @@ fn shows_what_it_is_made_of(rt: HostRuntime) -> Result<(), Fail> {
     Ok(())
 }
 
-/// The events of two threads that take turns and of one that is called once, by ticket.
+/// Returns the merged events of two threads that take turns and of one with a single call, by ticket.
 fn merged(alloc: Global) -> Result<Vec<Event>, AllocError> {
     let mut lists = Vec::new(alloc);
     for (thread, ticket) in [(0, 1), (1, 0)] {
@@ -251,7 +251,7 @@ fn merged(alloc: Global) -> Result<Vec<Event>, AllocError> {
     merge(alloc, &Lists::from_vec(lists))
 }
 
-/// What is merged: rising tickets, and the same ones in the order of the lists.
+/// The merged events: by ticket, and equal tickets in the order of the lists.
 const MERGED: [Mark; 5] = [
     (0, 1, What::CallDeq),
     (1, 0, What::CallDeq),

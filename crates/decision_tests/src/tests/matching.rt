@@ -12,10 +12,10 @@ use value_match::{
     match_values, ticket_of,
 };
 
-/// The operations that a violation of the first two kinds names, by their places: the enqueue, and the dequeues.
+/// The places of the operations that a violation of the first two kinds names: the enqueue, and the dequeues.
 type Named = (Option<usize>, usize, Option<usize>);
 
-/// The place of the enqueue, if the value isn't an initial one.
+/// Returns the place of the enqueue, unless the value is an initial one.
 fn enqueue_of(source: Source) -> Option<usize> {
     match source {
         Source::Enq(id) => Some(id.place()),
@@ -30,7 +30,7 @@ fn place_of(id: Option<OpId>) -> Option<usize> {
     }
 }
 
-/// The operations that the violation names, if it is of the first two kinds.
+/// Returns the operations that the violation names, if it is of the first two kinds.
 fn named(matched: &Matched) -> Option<Named> {
     match matched {
         Matched::Fresh(Violation::Fresh { deq, enq }) => {
@@ -43,20 +43,20 @@ fn named(matched: &Matched) -> Option<Named> {
     }
 }
 
-/// What matching names of these operations.
+/// Returns the operations that matching names.
 fn named_of(alloc: Global, rows: &[Row]) -> Result<Option<Named>, Fail> {
     let history = history_behind(alloc, &[], rows)?;
     let matched = match_values(alloc, &history)?;
     Ok(named(&matched))
 }
 
-/// Histories that break a rule of the first two kinds, or none of them.
+/// Histories with a violation of the first two kinds, or with neither.
 static NAMED: [(&[Row], Option<Named>); 3] = [
     (
         &[(0, 1, 0, Not(7)), (2, 3, 0, Deq(7))],
         Some((Some(0), 1, None)),
     ),
-    // of three dequeues the one that is called first returns last
+    // of three dequeues, the first called returns last
     (
         &[
             (0, 1, 0, Enq(7)),
@@ -77,16 +77,16 @@ fn names_a_value_that_was_not_there_or_came_twice(rt: HostRuntime) -> Result<(),
     Ok(())
 }
 
-/// An accepted value by its numbers: its source, and its dequeue if there is one.
+/// An enqueued value by its numbers: its source, and its dequeue if there is one.
 type Accepted = (usize, Option<usize>);
 
-/// What the matching of a history shows.
+/// What the matching of a history returns.
 struct Shown {
     initial: &'static [u64],
     rows: &'static [Row],
     /// The enqueues of the initial values, at their times.
     entered: &'static [Row],
-    /// The accepted values, by the numbers of their sources and the places of their dequeues.
+    /// The enqueued values, by the numbers of their sources and the places of their dequeues.
     values: &'static [Accepted],
     /// The empty dequeues and the failed enqueues, by their places among the operations.
     empties: &'static [usize],
@@ -141,7 +141,7 @@ static SHOWN: [Shown; 4] = [
     },
 ];
 
-/// The row at the times of its tickets.
+/// Returns the row at the times of its tickets.
 fn timed(row: &Row) -> Row {
     let (call, ret, thread, kind) = *row;
     (
@@ -152,7 +152,7 @@ fn timed(row: &Row) -> Row {
     )
 }
 
-/// The ticket at which the enqueue from this source is called; the initial values come in before ticket 0.
+/// Returns the ticket at which the enqueue of this source is called. Initial values are enqueued before ticket 0.
 fn called_at(shown: &Shown, source: Source) -> Option<i64> {
     match source {
         Source::Enq(id) => i64::try_from(shown.rows.get(id.place())?.0).ok(),
@@ -163,7 +163,7 @@ fn called_at(shown: &Shown, source: Source) -> Option<i64> {
     }
 }
 
-/// Whether this is the accepted value of these numbers, with its operations at their times.
+/// Returns whether the value is that of these numbers, with its operations at their times.
 fn is_value(value: &MatchedValue, shown: &Shown, wanted: Accepted) -> bool {
     let (source, place) = wanted;
     let enqueue = match value.source {
@@ -180,7 +180,7 @@ fn is_value(value: &MatchedValue, shown: &Shown, wanted: Accepted) -> bool {
         && is_row(value.life.dequeue, dequeue.as_ref())
 }
 
-/// Whether these are the accepted values.
+/// Returns whether these are the enqueued values.
 fn are_values(values: &Values, shown: &Shown) -> bool {
     if values.len() != shown.values.len() {
         return false;
@@ -193,7 +193,7 @@ fn are_values(values: &Values, shown: &Shown) -> bool {
     true
 }
 
-/// Whether these are the places.
+/// Returns whether these are the places.
 fn are_places(places: &Places, wanted: &[usize]) -> bool {
     if places.len() != wanted.len() {
         return false;
@@ -206,7 +206,7 @@ fn are_places(places: &Places, wanted: &[usize]) -> bool {
     true
 }
 
-/// What of the matching isn't as it should be; none if all is.
+/// Returns the name of a wrong part of the matching, or none if all are right.
 fn wrong_part(matching: &Matching, shown: &Shown) -> Option<&'static str> {
     if matching.initial() != shown.initial {
         Some("initial values")
@@ -223,7 +223,7 @@ fn wrong_part(matching: &Matching, shown: &Shown) -> Option<&'static str> {
     }
 }
 
-/// What of the matching of the history isn't as it should be; none if all is.
+/// Returns the name of a wrong part of the history's matching, or none if all are right.
 fn wrong_part_of(alloc: Global, shown: &Shown) -> Result<Option<&'static str>, Fail> {
     let history = history_behind(alloc, shown.initial, shown.rows)?;
     let matching = matching_of(alloc, &history)?;
@@ -239,7 +239,7 @@ fn a_matching_shows_its_history(rt: HostRuntime) -> Result<(), Fail> {
     Ok(())
 }
 
-/// Four values, of which the two that are enqueued last stay.
+/// Four values, of which the last two enqueued stay.
 const STAYING: &[Row] = &[
     (0, 2, 0, Enq(1)),
     (1, 4, 1, Enq(2)),
@@ -249,7 +249,8 @@ const STAYING: &[Row] = &[
     (30, 31, 0, Deq(2)),
 ];
 
-/// The call of the enqueue of the value that stays longest, of those whose enqueues returned before each limit.
+/// Limits, and the call of the enqueue of the value that stays longest among those whose enqueues returned before the
+/// limit.
 static LONGEST: [(u64, Option<u64>); 8] = [
     (0, None),
     (2, None),
@@ -261,13 +262,13 @@ static LONGEST: [(u64, Option<u64>); 8] = [
     (11, Some(5)),
 ];
 
-/// The ticket of the enqueue's call of the value that stays longest, of those that were enqueued before this ticket.
+/// Returns the ticket of the enqueue's call for the value that stays longest among those enqueued before this ticket.
 fn longest_call(table: &LongestTable, limit: u64) -> Option<u64> {
     let longest = table.longest_before(limit.saturating_add(ORIGIN))?;
     longest.life.enqueue_call().checked_sub(ORIGIN)
 }
 
-/// Whether the table finds these of four values.
+/// Returns whether the table finds these among the four values.
 fn are_longest(table: &LongestTable) -> bool {
     for (limit, call) in &LONGEST {
         if longest_call(table, *limit) != *call {
@@ -277,7 +278,7 @@ fn are_longest(table: &LongestTable) -> bool {
     table.values().len() == 4
 }
 
-/// Whether the table of the four values finds them.
+/// Returns whether the table of the four values finds them.
 fn finds_longest(alloc: Global) -> Result<bool, Fail> {
     let history = history_behind(alloc, &[], STAYING)?;
     let matching = matching_of(alloc, &history)?;

@@ -1,4 +1,4 @@
-//! What is searched for: values dequeued against the order of their enqueues, and empty dequeues that values cover.
+//! The results of the searches for values that overtake others and for covered empty dequeues.
 use super::small_histories::{
     DEQUEUED_LATER, HIDDEN, INITIAL, NEVER_EMPTY, ONCE_EMPTY, OVERLAPPING, OVERTAKEN, Row,
     history_behind, matching_of, number_of,
@@ -61,12 +61,12 @@ fn are_windows(found: &WitnessAnswer, wanted: Windows) -> bool {
     }
 }
 
-/// How a search goes.
+/// A way to search.
 #[derive(Clone, Copy, Debug)]
 enum Way {
     Alone,
     InPieces(usize),
-    /// Into the most pieces, if it chooses to cut.
+    /// In up to the maximum number of pieces; the search chooses.
     Chosen,
 }
 
@@ -79,7 +79,7 @@ const WAYS: [Way; 5] = [
     Way::Chosen,
 ];
 
-/// Whether the search for a pair finds this one.
+/// Returns whether the search for a pair finds this one.
 fn finds_pair<R: AllocGlobal + Threads + Sync>(
     rt: &R,
     matching: &Matching,
@@ -94,7 +94,7 @@ fn finds_pair<R: AllocGlobal + Threads + Sync>(
     Ok(is_pair(found, wanted))
 }
 
-/// What the search of the windows finds.
+/// Returns the result of the search of the windows.
 fn witness_by<R: AllocGlobal + Threads + Sync>(
     rt: &R,
     matching: &Matching,
@@ -107,7 +107,7 @@ fn witness_by<R: AllocGlobal + Threads + Sync>(
     }
 }
 
-/// Whether both searches find these.
+/// Returns whether both searches find these.
 fn finds<R: AllocGlobal + Threads + Sync>(
     rt: &R,
     matching: &Matching,
@@ -119,7 +119,7 @@ fn finds<R: AllocGlobal + Threads + Sync>(
     Ok(are_windows(&answer, windows) && finds_pair(rt, matching, way, pair)?)
 }
 
-/// A way in which the searches don't find these, if there is one.
+/// Returns a way in which the searches don't find these, if there is one.
 fn wrong_way<R: AllocGlobal + Threads + Sync>(
     rt: &R,
     initial: &[u64],
@@ -137,7 +137,7 @@ fn wrong_way<R: AllocGlobal + Threads + Sync>(
     Ok(None)
 }
 
-/// An empty answer that two of three values cover.
+/// An empty dequeue that two of three values cover.
 const COVERED_BY_TWO: &[Row] = &[
     (0, 1, 0, Enq(1)),
     (2, 11, 1, Empty),
@@ -148,7 +148,7 @@ const COVERED_BY_TWO: &[Row] = &[
     (12, 13, 0, Deq(3)),
 ];
 
-/// Four empty answers, of which the first has a gap; of the others the third returns first.
+/// Four empty dequeues, of which the first has a gap. Among the others, the third returns first.
 const THRICE_COVERED: &[Row] = &[
     (0, 1, 3, Empty),
     (2, 3, 0, Enq(1)),
@@ -157,7 +157,7 @@ const THRICE_COVERED: &[Row] = &[
     (7, 10, 3, Empty),
 ];
 
-/// Two pairs, of which that of the later values comes first.
+/// Two pairs, of which the one of the later values comes first.
 const TWO_PAIRS: &[Row] = &[
     (0, 1, 0, Enq(1)),
     (2, 3, 0, Enq(2)),
@@ -167,7 +167,7 @@ const TWO_PAIRS: &[Row] = &[
     (10, 11, 0, Deq(2)),
 ];
 
-/// A value overtakes two that are never dequeued: the first of these is shown.
+/// A value that overtakes two that are never dequeued. The first of these is named.
 const TWO_OVERTAKEN: &[Row] = &[
     (0, 1, 0, Enq(5)),
     (2, 3, 0, Enq(6)),
@@ -227,7 +227,7 @@ fn finds_pairs_and_covers_alone_and_in_pieces(rt: HostRuntime) -> Result<(), Fai
     Ok(())
 }
 
-/// What is found of the window of the first empty answer.
+/// Returns the result for the window of the first empty dequeue.
 fn first_answer(alloc: Global, matching: &Matching) -> Result<Option<GapAnswer>, AllocError> {
     let empties = matching.empties();
     if empties.len() == 0 {
@@ -236,7 +236,7 @@ fn first_answer(alloc: Global, matching: &Matching) -> Result<Option<GapAnswer>,
     Ok(Some(gap_for(alloc, matching, empties.get(0))?))
 }
 
-/// Whether this is what is found of a window: its gap, or its cover.
+/// Returns whether the result for a window is this gap or cover.
 fn is_window(found: &Option<GapAnswer>, wanted: Option<Result<u64, &[Step]>>) -> bool {
     match (found, wanted) {
         (None, None) => true,
@@ -246,7 +246,7 @@ fn is_window(found: &Option<GapAnswer>, wanted: Option<Result<u64, &[Step]>>) ->
     }
 }
 
-/// Whether this is what is found of the window of the first empty answer of these operations.
+/// Returns whether this is the result for the window of the first empty dequeue of these operations.
 fn finds_window(
     alloc: Global,
     initial: &[u64],
@@ -258,7 +258,7 @@ fn finds_window(
     Ok(is_window(&first_answer(alloc, &matching)?, wanted))
 }
 
-/// Initial values, operations, and what is found of the window of the first empty answer.
+/// Initial values, operations, and the result for the window of the first empty dequeue.
 static WINDOWS: [(&[u64], &[Row], Option<Result<u64, &[Step]>>); 5] = [
     (&[], OVERLAPPING, None),
     (&[], ONCE_EMPTY, Some(Ok(4))),
@@ -286,7 +286,8 @@ fn finds_what_is_in_a_window(rt: HostRuntime) -> Result<(), Fail> {
     Ok(())
 }
 
-/// Values that are enqueued and dequeued one after another, each followed by an empty answer; one of them stays.
+/// Returns values that are enqueued and dequeued one after another, each followed by an empty dequeue. One of them
+/// may stay.
 fn rounds(alloc: Global, staying: u64) -> Result<Vec<Row>, AllocError> {
     let mut rows = Vec::new(alloc);
     for round in 0u64..5000 {
@@ -300,7 +301,7 @@ fn rounds(alloc: Global, staying: u64) -> Result<Vec<Row>, AllocError> {
     Ok(rows)
 }
 
-/// The gap of each empty answer of the rounds, if no value stays: that of its call.
+/// Returns the gap of each empty dequeue of the rounds, if no value stays: that of its call.
 fn round_gaps(alloc: Global) -> Result<Vec<u64>, AllocError> {
     (0..5000u64).map(|round| 6 * round + 4).collect(alloc)
 }

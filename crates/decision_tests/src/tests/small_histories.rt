@@ -1,4 +1,4 @@
-//! Small histories for tests, written as rows, and whether something is these rows.
+//! Small histories for tests, written as rows, and comparisons with rows.
 
 use event_records::{Event, MAX_EVENTS, MAX_INITIAL, What};
 use history_merge::OpKind::{Deq, Empty, Enq, Not};
@@ -7,10 +7,10 @@ use std::alloc::{AllocError, Global};
 use std::test::Fail;
 use value_match::{Matched, Matching, Source, match_values};
 
-/// An operation: the tickets of its call and its return, its thread, and what it did.
+/// An operation: the tickets of its call and its return, its thread, and its kind.
 pub(crate) type Row = (u64, u64, u8, OpKind);
 
-/// Two overlapping enqueues, and the dequeues of their values in the other order.
+/// Two overlapping enqueues, and the dequeues of their values in the opposite order.
 pub(crate) const OVERLAPPING: &[Row] = &[
     (0, 2, 0, Enq(7)),
     (1, 3, 1, Enq(9)),
@@ -29,7 +29,7 @@ pub(crate) const DEQUEUED_LATER: &[Row] = &[
     (6, 7, 0, Deq(7)),
 ];
 
-/// A value that seems to overtake one, but may have been enqueued after that one's dequeue.
+/// A value that seems to overtake another, but may have been enqueued after the other's dequeue.
 pub(crate) const HIDDEN: &[Row] = &[
     (0, 6, 0, Enq(7)),
     (1, 3, 1, Deq(7)),
@@ -37,7 +37,7 @@ pub(crate) const HIDDEN: &[Row] = &[
     (4, 5, 1, Enq(9)),
 ];
 
-/// An empty answer while first one value and then another was in the queue.
+/// An empty dequeue during which first one value and then another was in the queue.
 pub(crate) const NEVER_EMPTY: &[Row] = &[
     (0, 1, 0, Enq(7)),
     (2, 9, 1, Empty),
@@ -46,7 +46,7 @@ pub(crate) const NEVER_EMPTY: &[Row] = &[
     (10, 11, 0, Deq(9)),
 ];
 
-/// An empty answer at the one gap at which the queue may have been empty.
+/// An empty dequeue with one gap at which the queue may have been empty.
 pub(crate) const ONCE_EMPTY: &[Row] = &[
     (0, 1, 0, Enq(7)),
     (2, 9, 1, Empty),
@@ -66,7 +66,7 @@ pub(crate) const OF_TWO: &[Row] = &[
     (20, 999_999_999_999, 63, Empty),
 ];
 
-/// An event.
+/// Returns the event.
 pub(crate) fn at(ticket: u64, thread: u8, what: What) -> Event {
     Event {
         ticket,
@@ -75,10 +75,10 @@ pub(crate) fn at(ticket: u64, thread: u8, what: What) -> Event {
     }
 }
 
-/// The number of the first initial value, where the lower ones are places of operations.
+/// The number of the first initial value. Lower numbers are places of operations.
 pub(crate) const INITIAL: usize = 1_000_000;
 
-/// The number of what a value comes from.
+/// Returns the number of a value's source.
 pub(crate) fn number_of(source: Source) -> usize {
     match source {
         Source::Enq(id) => id.place(),
@@ -86,7 +86,7 @@ pub(crate) fn number_of(source: Source) -> usize {
     }
 }
 
-/// The call and the return of an operation.
+/// Returns the call and the return of an operation.
 fn told(kind: OpKind) -> (What, What) {
     match kind {
         Enq(value) => (What::CallEnq(value), What::RetEnq),
@@ -96,7 +96,7 @@ fn told(kind: OpKind) -> (What, What) {
     }
 }
 
-/// The events of these operations.
+/// Returns the events of these operations.
 pub(crate) fn events_of(alloc: Global, rows: &[Row]) -> Result<Vec<Event>, AllocError> {
     let mut events = Vec::new(alloc);
     for (call, ret, thread, kind) in rows {
@@ -108,7 +108,7 @@ pub(crate) fn events_of(alloc: Global, rows: &[Row]) -> Result<Vec<Event>, Alloc
     Ok(events)
 }
 
-/// The history of these operations, of a queue that starts with these values.
+/// Returns the history of these operations, of a queue with these initial values.
 pub(crate) fn history_behind(
     alloc: Global,
     initial: &[u64],
@@ -121,7 +121,7 @@ pub(crate) fn history_behind(
     Ok(history_from(alloc, initial.to_vec(alloc)?, events.as_slice())?)
 }
 
-/// The matching of a history in which each dequeue is of a value that was there, and none is of the value of another.
+/// Returns the matching of a history without phantom and repeated dequeues.
 pub(crate) fn matching_of(alloc: Global, history: &History) -> Result<Matching<'_>, Fail> {
     match match_values(alloc, history)? {
         Matched::Clear(matching) => Ok(matching),
@@ -129,7 +129,7 @@ pub(crate) fn matching_of(alloc: Global, history: &History) -> Result<Matching<'
     }
 }
 
-/// Whether the operation is that of the row, or neither is there.
+/// Returns whether the operation is that of the row, or both are absent.
 pub(crate) fn is_row(operation: Option<Operation>, row: Option<&Row>) -> bool {
     match (operation, row) {
         (Some(operation), Some((call, ret, thread, kind))) => {
@@ -143,7 +143,7 @@ pub(crate) fn is_row(operation: Option<Operation>, row: Option<&Row>) -> bool {
     }
 }
 
-/// Whether the operations stand at the places of the rows, and none at other places.
+/// Returns whether the operations are at the places of the rows, and none is at another place.
 fn are_at_places(operations: &Operations, rows: &[Row]) -> bool {
     for place in [0, 1, 2, 3, 4, 5, 6, u32::MAX] {
         if !is_row(operations.get(OpId::new(place)), rows.get(place as usize)) {
@@ -153,7 +153,7 @@ fn are_at_places(operations: &Operations, rows: &[Row]) -> bool {
     operations.len() == rows.len()
 }
 
-/// Whether these are the operations of the rows, at their places and one after another.
+/// Returns whether these are the operations of the rows, by place and by iteration.
 pub(crate) fn are_rows(operations: &Operations, rows: &[Row]) -> bool {
     let mut left = operations.iter();
     for row in rows {

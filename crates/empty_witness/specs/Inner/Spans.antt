@@ -1,4 +1,4 @@
--- Spans that are added to others, and the first gap outside.
+-- Spans that are added to others, and the first gap outside of spans.
 use Rattle.std.specs.Prelude.{All, List, max, min, ℕ, ◌<◌, ◌↔◌, ◌≡◌, ◌≤◌, ◌⊎◌}
 use Rattle.empty_witness.specs.declared.spans.Span.{Span}
 use Rattle.empty_witness.specs.Spans.{AreApart, Holds, LiesIn}
@@ -15,7 +15,7 @@ pub record IsOfBoth (one other joined : Span) : Type 0 where
   pub starts : joined.start ≡ min one.start other.start
   pub ends : joined.end ≡ max one.end other.end
 
--- the spans are apart, and hold the gaps of these and of this span; they end where these or this one do
+-- the new spans are apart, and hold the gaps of the old ones and of this span; they end no later than these do
 pub record IsWithSpan (spans : List Span) (span : Span) (new : List Span) : Type 0 where
   pub apart : AreApart new
   pub same : (c : ℕ) → LiesIn new c ↔ (LiesIn spans c ⊎ Holds span c)

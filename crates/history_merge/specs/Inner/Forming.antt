@@ -1,4 +1,4 @@
--- What a history builder judges the next event by.
+-- Relations by which a history builder judges the next event.
 use Rattle.std.specs.Prelude.{◌≡◌, ℕ, ◌<◌, Bool, true, false, MatchOption, List, Option, None, Some, nat_eq, ⊤}
 use Rattle.std.specs.Option.{option_map_or}
 use Rattle.std.specs.List.{last_or, list_any}
@@ -10,7 +10,7 @@ use Rattle.history_merge.specs.Faults.{pending_call, IsLeastPending}
 use Rattle.history_merge.specs.Gathering.{is_among}
 use Rattle.history_merge.specs.Operations.{enqueued_value, operations_of}
 
--- the event may come next in its thread: a call if none is pending, otherwise the answer of the pending one
+-- the event may come next in its thread: a call if none is pending, otherwise the return of the pending one
 abbrev pub FitsTurn : Option Event → Event → Type 0
 FitsTurn pending e = MatchOption pending (is_call e.what ≡ true) (λ call. answers call.what e.what ≡ true)
 
@@ -19,15 +19,15 @@ pub record Follows (events : List Event) (e : Event) : Type 0 where
   pub rises : MatchOption (last_or None events) ⊤ (λ last. last.ticket < e.ticket)
   pub fits : FitsTurn (pending_call e.thread events) e
 
--- no call of any thread is without return
+-- no thread has a pending call
 abbrev pub NothingPending : List Event → Type 0
 NothingPending events = (thread : ℕ) → pending_call thread events ≡ None
 
--- the call has the least ticket of the calls without return
+-- the call has the least ticket of the pending calls
 abbrev pub IsLeastPendingCall : List Event → Event → Type 0
 IsLeastPendingCall events call = (pending_call call.thread events ≡ Some call) × IsLeastPending events call.ticket
 
--- the operations are those of the events, and tell them
+-- the operations are those of the events, and determine them
 pub record IsFormedOf (events : List Event) (operations : List Operation) : Type 0 where
   pub formed : operations ≡ operations_of events
   pub told : events_of operations ≡ events

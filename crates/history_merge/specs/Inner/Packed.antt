@@ -1,4 +1,4 @@
--- An operation in few numbers.
+-- An operation packed into a few numbers.
 use Rattle.std.specs.Prelude.{◌≡◌, ℕ, ◌+◌, ◌*◌, ◌/◌, ◌%◌, ◌<◌}
 use Rattle.std.proofs.Common.{refl, ap, ◌∙◌}
 use Rattle.std.proofs.lemmas.Nat.{div-mul-add, mod-mul-add}
@@ -8,39 +8,39 @@ use Rattle.history_merge.specs.declared.packed.Tag.{Tag}
 use Rattle.history_merge.specs.declared.packed.Tag.TheVariants as tag
 use Rattle.history_merge.specs.declared.packed.TheConstants.{LOWER}
 
--- what was called and answered
+-- the kind by its tag and value
 abbrev pub kind_by : Tag → ℕ → OpKind
 kind_by tag.Enq v = Enq v
 kind_by tag.Deq v = Deq v
 kind_by tag.Empty v = Empty
 kind_by tag.Not v = Not v
 
--- the same without the value
+-- the tag of a kind
 abbrev pub tag_of : OpKind → Tag
 tag_of (Enq v) = tag.Enq
 tag_of (Deq v) = tag.Deq
 tag_of Empty = tag.Empty
 tag_of (Not v) = tag.Not
 
--- its value, or 0
+-- the value of a kind, or 0
 abbrev pub value_of : OpKind → ℕ
 value_of (Enq v) = v
 value_of (Deq v) = v
 value_of Empty = 0
 value_of (Not v) = v
 
--- the number of two halves
+-- two halves joined to a number
 abbrev pub joined : ℕ → ℕ → ℕ
 joined upper lower = upper * LOWER + lower
 
--- where there is no value the number is 0, and the lower halves are in their range
+-- an operation without a value has the number 0, and lower halves are in range
 pub record IsPacked (t : Tag) (upper_value lower_value lower_call lower_ret : ℕ) : Type 0 where
   pub no_value : value_of (kind_by t (joined upper_value lower_value)) ≡ joined upper_value lower_value
   pub value : lower_value < LOWER
   pub call : lower_call < LOWER
   pub ret : lower_ret < LOWER
 
--- ---- nothing is lost
+-- ---- packing loses nothing
 
 pub back_upper : (upper lower : ℕ) → lower < LOWER → joined upper lower / LOWER ≡ upper
 back_upper upper lower below = div-mul-add upper LOWER lower below

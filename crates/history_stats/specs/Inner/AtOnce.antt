@@ -1,4 +1,4 @@
--- What is kept of tickets and of calls.
+-- Tickets and calls kept for values.
 use Rattle.std.specs.Prelude.{◌≡◌, ℕ, ◌&&◌, Bool, false, List, length, nat_le, nat_lt, count_by}
 use Rattle.std.specs.Option.{option_map_or}
 use Rattle.std.specs.Ordering.{nat_cmp}
@@ -6,11 +6,11 @@ use Rattle.std.specs.BTreeMap.{BTreeMap, get}
 use Rattle.std.specs.List.{list_any}
 use Rattle.history_merge.specs.declared.operation.Operation.{Operation}
 
--- how many of the tickets are below the gap
+-- the number of tickets below the gap
 abbrev pub count_before : ℕ → List ℕ → ℕ
 count_before gap tickets = count_by (λ t. nat_lt t gap) tickets
 
--- the ticket that is kept for the value is below the gap
+-- the ticket kept for the value is below the gap
 abbrev pub is_kept_before : ℕ → BTreeMap ℕ ℕ → ℕ → Bool
 is_kept_before gap kept v = option_map_or (λ t. nat_lt t gap) (get nat_cmp kept v) false
 

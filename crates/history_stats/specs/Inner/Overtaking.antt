@@ -1,4 +1,4 @@
--- When values have been enqueued and dequeued, and which dequeues gave them.
+-- When values were enqueued and dequeued, and by which dequeues.
 use Rattle.std.specs.Prelude.{◌≡◌, ℕ, ◌≤◌, ◌<◌, ◌&&◌, take, Bool, List, length, map, not, nat_lt, count_by, find, filter_map, All, Option, None, option_map}
 use Rattle.std.specs.Ordering.{nat_cmp}
 use Rattle.std.specs.BTreeMap.{BTreeMap, get}
@@ -17,20 +17,20 @@ use Rattle.history_stats.specs.declared.takings.Taking.{Taking}
 abbrev pub enqueue_call : List Operation → ℕ → Option ℕ
 enqueue_call operations v = option_map (λ e. e.call) (find (λ o. put v o.kind) operations)
 
--- the dequeue of an enqueued value that an operation of this kind is, if it is one
+-- an operation as a dequeue of an enqueued value, if it is one
 abbrev pub taking_by : List Operation → Operation → OpKind → Option Taking
 taking_by operations o (Deq v) = option_map (λ call. record { enqueue_call = call; call = o.call; ret = o.ret; value = v }) (enqueue_call operations v)
 taking_by operations o _ = None
 
--- the dequeues of values that were enqueued
+-- the dequeues of enqueued values
 abbrev pub takings_in : List Operation → List Taking
 takings_in operations = filter_map (λ o. taking_by operations o o.kind) operations
 
--- it was put before the one ticket, and not taken before the other, which comes after this number of calls
+-- the value was enqueued before one ticket, and not taken before another, which comes after this number of calls
 abbrev pub stays_at : ℕ → ℕ → Stay → Bool
 stays_at put_before called s = nat_lt s.put put_before && not (nat_lt s.taken called)
 
--- the tickets kept for values are those of the first calls of dequeues that gave them
+-- the tickets kept for values are those of the first calls of dequeues of them
 abbrev pub AreFirstTakes : List Operation → BTreeMap ℕ ℕ → Type 0
 AreFirstTakes operations takes = (gap v : ℕ) → is_kept_before gap takes v ≡ is_taken_before gap operations v
 
@@ -38,7 +38,7 @@ AreFirstTakes operations takes = (gap v : ℕ) → is_kept_before gap takes v �
 abbrev pub AreEnqueueCalls : List Operation → BTreeMap ℕ ℕ → Type 0
 AreEnqueueCalls operations calls = (v : ℕ) → get nat_cmp calls v ≡ enqueue_call operations v
 
--- as many stays as values were put before a ticket, and not taken before another
+-- there are as many such stays as values that were enqueued before a ticket and not taken before another
 abbrev pub CountStays : List Operation → List ℕ → List Stay → Type 0
 CountStays operations calls stays = (put_before gap : ℕ) →
     count_by (stays_at put_before (count_before gap calls)) stays ≡ stay_count gap operations (values_put_before put_before operations)
@@ -47,7 +47,7 @@ CountStays operations calls stays = (put_before gap : ℕ) →
 abbrev pub overtaking_among : List ℕ → List Stay → Taking → Option Overtaking
 overtaking_among calls stays t = overtaking_of (count_by (stays_at t.enqueue_call (count_before t.ret calls)) stays) t.call t.value
 
--- of the stays those before the place are tallied, by when they were taken
+-- the stays before the place are tallied, by when their values were taken
 pub record AreTallied (limit : ℕ) (stays : List Stay) (place : ℕ) (levels : List (List ℕ)) : Type 0 where
   pub taken : All (λ s. s.taken ≤ limit) stays
   pub few : length stays < 4611686018427387904

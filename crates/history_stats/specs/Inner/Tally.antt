@@ -1,17 +1,18 @@
 -- Numbers counted in blocks of 1, 2, 4, .. numbers.
 use Rattle.std.specs.Prelude.{◌≡◌, ℕ, suc, zero, ◌<◌, ◌≤◌, ◌/◌, List, [], length, count_by, nat_eq, slice_index_or}
 
--- the number halved so often: the block of a level that it is in
+-- the number halved this many times: its block in this level
 abbrev pub halved : ℕ → ℕ → ℕ
 halved x zero = x
 halved x (suc k) = halved x k / 2
 
--- each level has a count for each block of the numbers up to the limit, and the level after the last would have one block
+-- each level has a count for each block of the numbers up to the limit, and the level after the last would have one
+-- block
 pub record HasLevels (limit : ℕ) (levels : List (List ℕ)) : Type 0 where
   pub wide : (k : ℕ) → k < length levels → halved limit k < length (slice_index_or levels k [])
   pub ends : halved limit (length levels) ≡ 0
 
--- the count of each block is that of the numbers in it
+-- the count of each block is the number of numbers in it
 abbrev pub Counts : List (List ℕ) → List ℕ → Type 0
 Counts levels numbers =
     (k j : ℕ) → k < length levels → slice_index_or (slice_index_or levels k []) j 0 ≡ count_by (λ x. nat_eq (halved x k) j) numbers
@@ -21,7 +22,7 @@ pub record IsTally (limit : ℕ) (numbers : List ℕ) (levels : List (List ℕ))
   pub has_levels : HasLevels limit levels
   pub counts : Counts levels numbers
 
--- they count some numbers, few enough for another one, and have a block for this one
+-- the levels count some numbers, few enough for one more, and have a block for this one
 pub record HasRoomFor (number : ℕ) (levels : List (List ℕ)) : Type 0 where
   pub limit : ℕ
   pub numbers : List ℕ

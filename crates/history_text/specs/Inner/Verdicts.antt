@@ -1,4 +1,4 @@
--- The lines at the places of a verdict.
+-- Lines at the places of a verdict.
 use Rattle.std.specs.Prelude.{ℕ, List, codes}
 use Rattle.std.specs.List.{flat_map}
 use Rattle.std.specs.Option.{option_to_list}

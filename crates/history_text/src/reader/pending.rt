@@ -1,4 +1,4 @@
-//! How the text of a history is read whose calls may be pending.
+//! Reading texts in which calls may be pending.
 ghost use Rattle.std.specs.Prelude.{◌≡◌, ◌≢◌, ◌+◌, ◌++◌, ◌<◌, ◌^◌, ◌≤◌, [], true, false, None, Some, Err, IfOk, IfErr, OnOk, is_err, length};
 ghost use Rattle.history_text.specs.Reading.{Takes};
 ghost use Rattle.text_lines.specs.Lines.{end_line, line};
@@ -20,7 +20,7 @@ use packed_events::PackedEvent;
 use std::alloc::Global;
 use text_lines::{TextFault, TextSource};
 
-/// Returns whether the fault is that the input ends early, and that is allowed.
+/// Returns whether the fault is that the input ends early, and this is allowed.
 fn is_allowed(fault: TextFault, takes_cut: bool) -> bool
     ensures yes { result ≡ true → (takes_cut ≡ true) × (fault ≡ TextFault.Cut) }
     ensures no { result ≡ false → takes_cut ≡ true → fault ≢ TextFault.Cut }
@@ -29,7 +29,7 @@ fn is_allowed(fault: TextFault, takes_cut: bool) -> bool
 }
 
 impl<R: TextSource> TextReader<R> {
-    /// Returns whether the input begins with a pending text, and its version, by its first line.
+    /// Reads the first line. Returns whether it begins a pending text, and its version.
     fn first_line(&mut self) -> Result<(bool, Version), TextFault>
         requires { self.old.lines + 1 < 2 ^ 64 }
         ensures ok { IfOk result (λ first. Takes self.old.left self.new.left (line (first_line_of first.0 first.1))) }
@@ -44,7 +44,7 @@ impl<R: TextSource> TextReader<R> {
         }
     }
 
-    /// Returns what the next line says, after this many events.
+    /// Reads the next line after this many events.
     #[inline(never)]
     fn event_line(&mut self, is_pending: bool, count: usize) -> Result<EventLine, TextFault>
         requires { self.old.lines + 1 < 2 ^ 64 }
@@ -58,7 +58,7 @@ impl<R: TextSource> TextReader<R> {
         event_line_in(is_pending, self.lines, count, line.as_slice())
     }
 
-    /// Takes the next line, which has to count this many events.
+    /// Reads the next line, which has to count this many events.
     fn last_line(&mut self, count: usize) -> Result<(), TextFault>
         requires { self.old.lines + 1 < 2 ^ 64 }
         ensures ok { OnOk result (Takes self.old.left self.new.left (end_line count)) }
@@ -71,7 +71,8 @@ impl<R: TextSource> TextReader<R> {
         last_line_in(self.lines, count, line.as_slice())
     }
 
-    /// Collects the events from here on, up to the line at which they stop, and returns how many calls that line counts.
+    /// Collects the events up to the line at which they stop. Returns the number of pending calls that this line
+    /// counts.
     fn collect_events(
         &mut self,
         is_pending: bool,
@@ -85,7 +86,7 @@ impl<R: TextSource> TextReader<R> {
         ensures right { IfErr result (λ fault. IsOfInput fault → HaveLines event_format into.new.items) }
     {
         let mut count = 0;
-        // Number of refills since the last event.
+        // Number of refills since the last event. After two, the slow path parses the line.
         let mut tries = 0u8;
         let mut digits = 0;
         loop {
@@ -109,7 +110,7 @@ impl<R: TextSource> TextReader<R> {
         }
     }
 
-    /// Collects the events from here on, and reads the lines after them.
+    /// Collects the events, and reads the lines after them.
     fn events_to_end(
         &mut self,
         is_pending: bool,
@@ -134,7 +135,7 @@ impl<R: TextSource> TextReader<R> {
         Ok(())
     }
 
-    /// Returns what the text says that the input begins with, and whether the text is whole.
+    /// Returns the text that the input begins with, and whether it is whole.
     fn pending(&mut self, alloc: Global, takes_cut: bool) -> Result<(PendingText, bool), TextFault>
         requires { self.old.lines < 2 ^ 63 }
         ensures text { IfOk result (λ read. IsPendingRead takes_cut self.old.lines self.old.left self.new.left read.0 read.1) }
@@ -165,13 +166,13 @@ impl<R: TextSource> TextReader<R> {
     }
 }
 
-/// Reads the text of a history whose calls may be pending: a history's, or a pending text, which also counts its pending
-/// calls. Returns what it says, and whether the text is whole.
+/// Reads the text of a history in which calls may be pending: a history's text, or a pending text, which also counts
+/// its pending calls. Returns its content, and whether the text is whole.
 ///
-/// With `takes_cut`, an input that ends after some of the events is read as far as its lines are whole; nothing is left
-/// of it then. It doesn't judge whether the events are a history, nor whether the count of pending calls is right. The
-/// time is linear in the bytes read, and the values and events take memory. `Memory` comes only at a line that, like
-/// those before it, is whole and without fault.
+/// With `takes_cut`, an input that ends after some of the events is read as far as its lines are whole, and nothing
+/// is left of it. Whether the events are a history, and whether the count of pending calls is right, isn't judged.
+/// Takes time linear in the bytes read, and memory for the values and events. `Memory` comes only at a line that,
+/// like those before it, is whole and without fault.
 pub fn read_pending<R: TextSource>(
     alloc: Global,
     reader: &mut TextReader<R>,
@@ -180,15 +181,15 @@ pub fn read_pending<R: TextSource>(
     requires running { reader.old.is_stopped ≡ false }
     requires lines { reader.old.lines < 2 ^ 63 }
 
-    // What is read is the text that stands at the front; or what comes of one before the input ends.
+    // The input begins with the text; or with a part of one, and then ends.
     ensures text { IfOk result (λ read. IsPendingRead takes_cut reader.old.lines reader.old.left reader.new.left read.0 read.1) }
 
-    // Whatever the source: each value and each event has its line.
+    // Whatever the source does, each value and each event has its line.
     ensures lines { IfOk result (λ read. HaveValueLines read.0.version read.0.initial × HaveLines event_format read.0.events) }
 
     ensures count { IfOk result (λ read. read.1 ≡ true → reader.new.lines ≡ reader.old.lines + pending_line_count read.0) }
 
-    // A fault is the first one.
+    // The fault is the first one.
     ensures fault { IfErr result (HasPendingTextFault takes_cut reader.old.lines reader.old.left) }
 
     ensures stopped { reader.new.is_stopped ≡ is_err result }

@@ -1,4 +1,4 @@
--- The values by their times, and those of them that are left.
+-- The values sorted by their times, and those of them that are left.
 use Rattle.std.specs.Prelude.{All, Bool, Contains, false, IsPermutation, IsSomeAnd, length, List, slice_get, Some}
 use Rattle.std.specs.Prelude.{take, true, ℕ, ◌%◌, ◌*◌, ◌+◌, ◌/◌, ◌<◌, ◌≡◌, ◌≤◌, ◌⊎◌}
 use Rattle.std.specs.List.Sorted.{IsNonDecreasingBy}
@@ -13,11 +13,11 @@ use Rattle.linearizer.specs.Inner.Placement.{places_in}
 use Rattle.linearizer.specs.declared.timed.Timed.{Timed}
 use Rattle.linearizer.specs.declared.timed.TheConstants.{PLACES}
 
--- the time is this number of the value at the place
+-- the time is this number of the value at this place
 abbrev pub IsTimeOf : (Life → ℕ) → List MatchedValue → Timed → Type 0
 IsTimeOf number values timed = IsSomeAnd (slice_get values timed.place) (λ m. timed.time ≡ number m.life)
 
--- each value that has such a time by it and its place, by times that never fall
+-- each value that has such a time, by this time and its place; the times never fall
 pub record AreByTime (number : Life → ℕ) (values : List MatchedValue) (entries : List Timed) : Type 0 where
   pub never_falls : IsNonDecreasingBy (λ timed. timed.time) entries
   pub are_timed : All (IsTimeOf number values) entries
@@ -25,31 +25,32 @@ pub record AreByTime (number : Life → ℕ) (values : List MatchedValue) (entri
   pub has_each : (place : ℕ) (m : MatchedValue) → slice_get values place ≡ Some m → number m.life < NEVER
       → (timed : Timed) × Contains entries timed × (timed.place ≡ place)
 
--- the value is taken already
+-- the value at this place is taken
 abbrev pub IsTaken : List Bool → Timed → Type 0
 IsTaken taken timed = slice_get taken timed.place ≡ Some true
 
--- the value is left
+-- the value at this place is left
 abbrev pub IsLeft : List Bool → Timed → Type 0
 IsLeft taken timed = slice_get taken timed.place ≡ Some false
 
--- the place of the first entry whose value is left, or that behind the last
+-- the index of the first entry whose value is left, or the number of entries
 pub record IsFirstLeft (entries : List Timed) (taken : List Bool) (i : ℕ) : Type 0 where
   pub before : All (IsTaken taken) (take i entries)
   pub is_left : (timed : Timed) → slice_get entries i ≡ Some timed → IsLeft taken timed
 
--- the dequeue at a place of the list, or, behind the last, this value as never dequeued
+-- the dequeue at index i, or, past the end, a value that is never dequeued
 abbrev pub IsDequeuedAt : List Timed → ℕ → ℕ → Timed → Type 0
 IsDequeuedAt dequeues i place timed =
     (slice_get dequeues i ≡ Some timed) ⊎ ((length dequeues ≤ i) × (timed ≡ record { time = NEVER; place = place }))
 
--- the place of the second value, where that was dequeued before the first can have left, else that of the first
+-- the place of the second value if that is dequeued before the first can have left, else that of the first
 abbrev pub TakesOneOf : List MatchedValue → Timed → Timed → ℕ → Type 0
 TakesOneOf values first_in first_out place =
     (m : MatchedValue) → slice_get values first_in.place ≡ Some m
     → ((first_out.time < leaves_from m.life) × (place ≡ first_out.place)) ⊎ ((leaves_from m.life ≤ first_out.time) × (place ≡ first_in.place))
 
--- the values in their chosen order, each once and by its place, with the gap of each enqueue, which is called in time
+-- the values in their chosen order, each once and by its place, with the gap of its enqueue; no enqueue is called too
+-- late
 pub record IsInOrder (values : List MatchedValue) (order : List Timed) : Type 0 where
   pub within : All (λ place. place < length values) (places_in order)
   pub holds_each_once : IsPermutation values (elements_at values (places_in order))
@@ -57,7 +58,7 @@ pub record IsInOrder (values : List MatchedValue) (order : List Timed) : Type 0 
   pub gaps : AreEnqueueGaps (lives_in (elements_at values (places_in order))) (gaps_in order)
   pub in_time : AreCalledInTime (lives_in (elements_at values (places_in order)))
 
--- ---- nothing is lost of a time and a place in one word
+-- ---- a word keeps both its time and its place
 
 pub back_joined : (word : ℕ) → PLACES * (word / PLACES) + word % PLACES ≡ word
 back_joined word = div-add-mod word PLACES

@@ -1,4 +1,4 @@
--- What a sweep over the values finds.
+-- The result of a sweep over the values.
 use Rattle.std.specs.Prelude.{◌<◌, List, Contains}
 use Rattle.value_match.specs.declared.life.Life.{Life}
 use Rattle.value_match.specs.declared.life.MatchedValue.{MatchedValue}
@@ -10,7 +10,8 @@ use Rattle.linearizer.specs.Inner.Sweep.{IsInOrder}
 use Rattle.linearizer.specs.declared.choice.Swept.{Swept}
 use Rattle.linearizer.specs.declared.choice.Swept.TheVariants as swept
 
--- the value is the next of some that are left, and is called when another of them has entered; those that overtake another are left
+-- the value is the choice among some that are left, and its enqueue is called after another of them has entered; all
+-- values that overtake another are left
 pub record IsPassedOver (values : List MatchedValue) (next : MatchedValue) : Type 0 where
   pub is_value : Contains values next
   pub remaining : List Life
@@ -21,7 +22,7 @@ pub record IsPassedOver (values : List MatchedValue) (next : MatchedValue) : Typ
   pub too_late : entered_by entered < enqueue_call next.life
   pub are_left : (x a : MatchedValue) → Contains values x → Contains values a → Overtakes x.life a.life → Contains remaining x.life
 
--- the values in their chosen order, or the one that can't come next
+-- the values in their chosen order, or one that is passed over
 abbrev pub IsSweepOf : List MatchedValue → Swept → Type 0
 IsSweepOf values (swept.InOrder order) = IsInOrder values order.items
 IsSweepOf values (swept.PassedOver next) = IsPassedOver values next

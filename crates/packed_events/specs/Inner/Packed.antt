@@ -1,4 +1,4 @@
--- An event in few numbers.
+-- An event packed into a few numbers.
 use Rattle.std.specs.Prelude.{◌≡◌, ℕ, ◌+◌, ◌*◌, ◌/◌, ◌%◌, ◌<◌}
 use Rattle.std.proofs.Common.{refl}
 use Rattle.std.proofs.lemmas.Nat.{div-mul-add, mod-mul-add}
@@ -8,7 +8,7 @@ use Rattle.packed_events.specs.declared.packed.Tag.{Tag}
 use Rattle.packed_events.specs.declared.packed.Tag.TheVariants as tag
 use Rattle.packed_events.specs.declared.packed.TheConstants.{LOWER}
 
--- what was called or answered
+-- the kind of event by its tag and value
 abbrev pub what_by : Tag → ℕ → What
 what_by tag.CallEnq v = CallEnq v
 what_by tag.RetEnq v = RetEnq
@@ -17,7 +17,7 @@ what_by tag.CallDeq v = CallDeq
 what_by tag.RetDeq v = RetDeq v
 what_by tag.RetEmpty v = RetEmpty
 
--- the same without the value
+-- the tag of a kind of event
 abbrev pub tag_of : What → Tag
 tag_of (CallEnq v) = tag.CallEnq
 tag_of RetEnq = tag.RetEnq
@@ -26,22 +26,22 @@ tag_of CallDeq = tag.CallDeq
 tag_of (RetDeq v) = tag.RetDeq
 tag_of RetEmpty = tag.RetEmpty
 
--- its value, or 0
+-- the value of a kind of event, or 0
 abbrev pub value_of : What → ℕ
 value_of (CallEnq v) = v
 value_of (RetDeq v) = v
 value_of _ = 0
 
--- the number of two parts
+-- two parts joined to a number
 abbrev pub joined : ℕ → ℕ → ℕ
 joined upper lower = upper * LOWER + lower
 
--- where there is no value the number is 0, and the lower part of the ticket is in its range
+-- an event without a value has the number 0, and the lower part of the ticket is in range
 pub record IsPacked (t : Tag) (value lower_ticket : ℕ) : Type 0 where
   pub no_value : value_of (what_by t value) ≡ value
   pub ticket : lower_ticket < LOWER
 
--- ---- nothing is lost
+-- ---- packing loses nothing
 
 pub back_upper : (upper lower : ℕ) → lower < LOWER → joined upper lower / LOWER ≡ upper
 back_upper upper lower below = div-mul-add upper LOWER lower below

@@ -16,7 +16,7 @@ abbrev pub ask_of : Kind → ℕ → Step
 ask_of Enq t = AskEnq t
 ask_of Deq t = AskDeq t
 
--- what t asks by its operation with number n
+-- the request of the operation of t with number n
 abbrev pub asked_for : Kind → ℕ → ℕ → Request
 asked_for Enq t n = Enqueue (value_name t n)
 asked_for Deq t n = Dequeue

@@ -1,4 +1,4 @@
--- Refusals by what one thread holds. Only private functions cite this file.
+-- Refusals by the state of one thread. Only private functions cite this file.
 use Rattle.std.specs.Prelude.{◌&&◌, ◌==◌, Bool, false, is_some, length, Option, None, Some}
 use Rattle.std.specs.Option.{is_none}
 use Rattle.recorder_core.specs.declared.pending.Pending.{Pending}
@@ -8,12 +8,12 @@ use Rattle.recorder_core.specs.declared.step.StepRefused.TheVariants.{Closed, He
 use Rattle.recorder_core.specs.declared.step.StepRefused.TheVariants.{NoAnswer, AnswerTaken, Memory}
 use Rattle.recorder_core.specs.View.{ThreadView}
 
--- the answer that an operation has, if there is one
+-- the answer of the pending operation, if there is one
 abbrev pub given_answer : Option Pending → Option Answer
 given_answer None = None
 given_answer (Some pending) = pending.answer
 
--- whether a thread that holds this meets a refusal; the word before says which of the others are met
+-- whether a thread in this state meets a refusal; `others` says which of the other refusals are met
 abbrev pub seen : ThreadView → (StepRefused → Bool) → StepRefused → Bool
 seen thread others Closed = thread.closed
 seen thread others Held = is_some thread.held
@@ -24,16 +24,16 @@ seen thread others NoAnswer = is_none (given_answer thread.pending)
 seen thread others AnswerTaken = is_some (given_answer thread.pending)
 seen thread others refused = others refused
 
--- none of the others
+-- none of the other refusals
 abbrev pub none_other : StepRefused → Bool
 none_other refused = false
 
--- the ring is full or not, and growth is refused or not
+-- whether the ring is full, and whether memory ran out
 abbrev pub when_pushing : Bool → Bool → StepRefused → Bool
 when_pushing full starved RingFull = full
 when_pushing full starved Memory = starved
 when_pushing full starved refused = false
 
--- nothing more can come from it
+-- no more events can come from the thread
 abbrev pub is_thread_done : ThreadView → Bool
 is_thread_done thread = thread.closed && (length thread.ring == 0)

@@ -4,18 +4,19 @@ use history_text::{MemorySource, TextReader, Version, at_end, read_history};
 use std::alloc::{AllocError, Global};
 use std::test::Fail;
 
-/// A queue that was never empty, and was called so.
+/// A history with a false empty dequeue: the queue was never empty during it.
 const TEXT: &[u8] =
     b"fifo-history 1\n0 0 call-enq 7\n1 0 ret-enq\n2 1 call-deq\n3 0 call-enq 9\n4 0 ret-enq\n\
     5 0 call-deq\n6 0 ret-deq 7\n9 1 ret-empty\n10 0 call-deq\n11 0 ret-deq 9\nend 10\n";
 
-/// That text with `#` for any digit, and `+` for any digit but 0. With another byte in one place it is a history's
-/// if and only if this allows the byte. The last line counts the events, and so stays as it is.
+/// The text with `#` in place of any digit, and `+` in place of any digit but 0. The text with one byte changed is
+/// that of a history if and only if this form allows the byte. The last line counts the events, so its digits are
+/// fixed.
 const FORMS: &[u8] =
     b"fifo-history 1\n# # call-enq #\n# # ret-enq\n# # call-deq\n# # call-enq #\n# # ret-enq\n\
     # # call-deq\n# # ret-deq #\n# # ret-empty\n+# # call-deq\n+# # ret-deq #\nend 10\n";
 
-/// Whether a byte may stand where this form is.
+/// Returns whether the form allows the byte.
 fn is_allowed(form: u8, byte: u8) -> bool {
     match form {
         b'#' => byte.is_ascii_digit(),
@@ -24,7 +25,7 @@ fn is_allowed(form: u8, byte: u8) -> bool {
     }
 }
 
-/// Whether a text is that of one history, of version 1.
+/// Returns whether a text is that of a single history, of version 1.
 fn is_history(alloc: Global, text: &[u8]) -> Result<bool, AllocError> {
     let mut reader = TextReader::new(MemorySource::new(text));
     match known(read_history(alloc, &mut reader))? {
@@ -33,8 +34,8 @@ fn is_history(alloc: Global, text: &[u8]) -> Result<bool, AllocError> {
     }
 }
 
-/// For how many bytes at this place the text is a history's though the form doesn't allow them, or isn't though it
-/// does.
+/// Returns the number of bytes at this place for which the form is wrong: the text is a history's though the form
+/// doesn't allow the byte, or isn't though it does.
 fn mistakes_at(alloc: Global, place: usize, form: u8) -> Result<usize, AllocError> {
     let mut changed = Vec::from_slice(alloc, TEXT)?;
     let mut mistakes: usize = 0;

@@ -1,4 +1,4 @@
-//! What the tests of the readers share.
+//! Parts that the tests of the readers share.
 ghost use Rattle.std.specs.Prelude.{◌≡◌, ◌<◌, IfOk};
 ghost use Rattle.text_lines.specs.Input.{Exactly};
 
@@ -24,7 +24,7 @@ impl TextSource for Counted<'_> {
     }
 }
 
-/// What a reader returned. Out of memory is an error of its own.
+/// Returns the result of a reader, with out of memory as an error of its own.
 pub(crate) fn known<T>(answer: Result<T, TextFault>) -> Result<Result<T, TextFault>, AllocError>
     ensures { IfOk result (λ known. known ≡ answer) }
 {
@@ -34,11 +34,10 @@ pub(crate) fn known<T>(answer: Result<T, TextFault>) -> Result<Result<T, TextFau
     }
 }
 
-/// How many lines were read of an input, of the kind that the reader counts, or its fault.
+/// The number of lines read, of the kind that the reader counts, or the fault of the input.
 pub(crate) type Outcome = Result<Result<usize, TextFault>, AllocError>;
 
-/// Asserts that each prefix of a text, in pieces of this many bytes, has the fault `Read` if its source fails after
-/// it.
+/// Asserts that each prefix of a text, in pieces of `most` bytes, has the fault `Read` if its source fails after it.
 pub(crate) fn assert_failures<F>(
     rt: &impl Abort,
     alloc: Global,

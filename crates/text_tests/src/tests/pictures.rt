@@ -1,4 +1,5 @@
-// Further pictures in characters are compared by `extras/answers`, and how SVG documents end by `extras/pictures/run`.
+// `extras/answers` compares more pictures in characters, and `extras/pictures/run` compares the ends of SVG
+// documents.
 ghost use Rattle.std.specs.Prelude.{◌≤◌, IfOk};
 ghost use Rattle.drawing.specs.Claim.{count_of_lines};
 ghost use Rattle.drawing.specs.declared.columns.TheConstants.{MOST_DRAWN};
@@ -11,7 +12,7 @@ use std::test::Fail;
 use svg_picture::{html_picture, svg_picture};
 use verdicts::Claimed;
 
-/// The greatest ticket, thread and value, with the only order.
+/// The greatest ticket, thread and value, with the only linearization.
 const TEXT: &[u8] = b"fifo-history 1\n999999999998 63 call-enq 18446744073709551615\n\
     999999999999 63 ret-enq\nend 2\nYES\n999999999998 999999999999 63 enq 18446744073709551615\n";
 
@@ -30,7 +31,7 @@ effect. They rise from top to bottom, and each stands within its bar.\n\
 \x20             1 enq 18446744073709551615  1\n\
 999999999999                              ]\n";
 
-/// A history and a claim of few lines, from their texts.
+/// Reads a history and a claim of few lines from their texts.
 fn read(alloc: Global, text: &[u8]) -> Result<(History, Claimed), Fail>
     ensures { IfOk result (λ read. count_of_lines read.1 ≤ MOST_DRAWN) }
 {
@@ -44,7 +45,8 @@ fn read(alloc: Global, text: &[u8]) -> Result<(History, Claimed), Fail>
     Ok((history, claimed))
 }
 
-/// The picture of a history's text and a verdict's, in lines of characters. Returns from `added_from` on were added.
+/// Returns the terminal picture of a history's text and its verdict's. Returns from ticket `added_from` on were
+/// added.
 fn terminal_of(alloc: Global, text: &[u8], added_from: Option<u64>) -> Result<Vec<u8>, Fail> {
     let (history, claimed) = read(alloc, text)?;
     let drawn = drawn_operations(alloc, &history, &claimed, None)?;
@@ -61,7 +63,7 @@ fn draws_the_greatest_numbers_whole(rt: HostRuntime) -> Result<(), Fail> {
     Ok(())
 }
 
-/// A dequeue that never returned, and took effect: ticket 3 was added.
+/// A dequeue that never returned, and took effect. Ticket 3 was added.
 const OPEN_DEQUEUE: &[u8] = b"fifo-history 1\n0 0 call-enq 7\n1 1 call-deq\n2 0 ret-enq\n\
     3 1 ret-deq 7\nend 4\nYES\n0 2 0 enq 7\n1 3 1 deq 7\n";
 
@@ -93,7 +95,7 @@ fn draws_a_dequeue_that_never_returned(rt: HostRuntime) -> Result<(), Fail> {
     Ok(())
 }
 
-/// An enqueue that never returned, away from the line of the claim: ticket 5 was added.
+/// An enqueue that never returned, outside the lines of the claim. Ticket 5 was added.
 const OPEN_ENQUEUE: &[u8] = b"fifo-history 1\n0 0 call-deq\n1 0 ret-deq 7\n2 1 call-enq 9\n\
     3 2 call-deq\n4 2 ret-deq 9\n5 1 ret-enq\nend 6\nNO VFresh\n0 1 0 deq 7\n";
 
@@ -129,7 +131,7 @@ fn draws_an_enqueue_that_never_returned(rt: HostRuntime) -> Result<(), Fail> {
     Ok(())
 }
 
-/// The overtaken value is left to a dequeue that never returned: ticket 7 was added.
+/// An overtaken value that is left for a dequeue that never returned. Ticket 7 was added.
 const OPEN_OVERTAKEN: &[u8] =
     b"fifo-history 1\n0 0 call-enq 7\n1 0 ret-enq\n2 1 call-enq 9\n3 1 ret-enq\n\
     4 2 call-deq\n5 2 ret-deq 9\n6 3 call-deq\n7 3 ret-deq 7\nend 8\n\
@@ -174,14 +176,14 @@ fn says_that_an_overtaken_value_was_never_returned(rt: HostRuntime) -> Result<()
 const FRESH: &[u8] =
     b"fifo-history 1\n0 0 call-deq\n1 0 ret-deq 7\nend 2\nNO VFresh\n0 1 0 deq 7\n";
 
-/// 588 wide by the fixed words, and three rows and the names below them, where rows begin at 252.
+/// 588 wide because of the fixed words. Below 252, where rows begin, are three rows and the names.
 const FRESH_BEGINS: &str = "<?xml version=\"1.0\" encoding=\"UTF-8\"?>\n\
 <svg xmlns=\"http://www.w3.org/2000/svg\" version=\"1.1\" width=\"588\" height=\"338\" viewBox=\"0 0 588 338\" role=\"img\">\
 <title>NO: a value was dequeued that was not there</title>\n\
 <desc>7 was dequeued (1), but nobody ever enqueued it.\n</desc>\n<style>";
 
-/// The SVG document and the page of a history's text and a verdict's. That the picture stands within the page is
-/// compared by `extras/pictures/run`.
+/// Returns the SVG document and the page of a history's text and its verdict's. `extras/pictures/run` compares the
+/// picture in the page.
 fn documents_of(
     alloc: Global,
     text: &[u8],
@@ -203,8 +205,8 @@ fn draws_a_value_that_was_not_there_in_documents(rt: HostRuntime) -> Result<(), 
     Ok(())
 }
 
-/// Lanes begin at 128 and 204, rows at 212, and end at 352: from its call at 255 on the bar goes to that end, where a window cuts off
-/// its lower edge.
+/// Lanes begin at 128 and 204, rows at 212, and end at 352. The bar runs from its call at 255 to that end, where a
+/// window cuts off its lower edge.
 const OPEN_BAR: &str =
     "<g class=\"yes\"><title>thread 1: deq 7, ticket 1, never returned, number 2</title>\n\
 <svg width=\"283\" height=\"352\"><rect x=\"207\" y=\"255\" width=\"70\" height=\"117\" rx=\"9\" class=\"deq\"></rect>\n</svg>\n\
@@ -227,7 +229,7 @@ fn leaves_out_the_lower_edge_of_a_bar_that_never_returned(rt: HostRuntime) -> Re
     Ok(())
 }
 
-/// The dequeue that never returned has a word after its line.
+/// The line of the dequeue that never returned ends with a word.
 const OPEN_LINES: &str = "\n0 2 0 enq 7\n1 3 1 deq 7 pending\n</script>\n";
 
 #[test]

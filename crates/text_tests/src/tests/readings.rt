@@ -1,4 +1,4 @@
-//! How often the source of a text is read.
+//! The number of times that the source of a text is read.
 ghost use Rattle.std.specs.Prelude.{◌<◌};
 
 use super::outcomes::Counted;
@@ -13,8 +13,8 @@ use std::test::Fail;
 
 const HISTORY: &[u8] = b"fifo-history 1\n0 0 call-enq 7\n1 0 ret-enq\nend 2\n";
 
-/// How many events a history has, how often its source was read for it, what is found at its end, and how often the
-/// source was read by then.
+/// Returns the number of events of a history, the number of reads of its source for it, the result at its end, and
+/// the number of reads by then.
 fn history_reads(
     alloc: Global,
     source: MemorySource<'_>,
@@ -45,7 +45,7 @@ fn the_end_is_looked_for_where_nothing_is_left(rt: HostRuntime) -> Result<(), Fa
     Ok(())
 }
 
-/// Whether a history is read, and how often its source was asked.
+/// Returns whether a history is read, and the number of reads of its source.
 fn cut_reads(alloc: Global, source: MemorySource<'_>) -> (bool, usize) {
     let reads = AtomicUsize::new(0);
     let mut reader = TextReader::new(Counted {
@@ -68,7 +68,7 @@ const SCHEDULE: &[u8] =
     b"fifo-schedule 1\nthreads 64 ring 65536\nask-enq 0\nask-deq 1\npush 2\neffect 3\n\
     say 4 taken\nsay 5 not\nsay 6 got 18446744073709551615\nsay 7 empty\nret 8\ndrain 9 65536\nclose 63\nend 11\n";
 
-/// The schedule in pieces of this many bytes, and how often its source was read.
+/// Returns the schedule, read in pieces of `most` bytes, and the number of reads of its source.
 fn schedule_reads(alloc: Global, most: usize) -> Result<(Schedule, usize), TextFault>
     requires { 0 < most }
 {
@@ -111,7 +111,7 @@ fn a_schedule_is_read_to_its_last_line(rt: HostRuntime) -> Result<(), Fail> {
     Ok(())
 }
 
-/// How often the source of a verdict in pieces of this many bytes is read.
+/// Returns the number of reads of the source of a verdict, in pieces of `most` bytes.
 fn verdict_reads(alloc: Global, most: usize) -> Result<usize, TextFault>
     requires { 0 < most }
 {

@@ -1,4 +1,4 @@
-//! What standard error says, with ample memory. The words of each message stand in extras/answers.
+//! The text on standard error, with ample memory. The words of each message are in extras/answers.
 use event_records::{Event, What};
 use history_merge::{Clash, HistoryFault, Placed};
 use history_text::{MemorySource, TextFault, TextSource};
@@ -13,7 +13,7 @@ fifobench: line 70002: the call of ticket 70001 never returns: '70001 5 call-deq
 fifobench: a history has the return of each call: fifobench complete < FILE | fifobench check judges one with pending calls
 ";
 
-/// Sentences about a line that is kept, and about a call without return whose line isn't.
+/// Returns sentences about a line that is kept, and about a call without return whose line isn't.
 fn sentences(alloc: Global) -> Result<String, AllocError> {
     let kept = Given {
         reads: Reads::History,
@@ -52,7 +52,7 @@ const HINTS: &str =
 fifobench: 2002 events were written; fifobench stress .. > FILE keeps them in a file
 ~a\\t\\r\\x00\\xff\\x7f";
 
-/// What is said to a terminal, and what bytes are quoted as.
+/// Returns the text for a terminal, and bytes as they are quoted.
 fn hints(alloc: Global) -> Result<String, AllocError> {
     let mut said = greeting(alloc, "sim", Reads::Schedule)?;
     said.push_str(&keeping(alloc, 2002)?)?;

@@ -1,12 +1,12 @@
-//! How often readers and writers are asked, and what is made of their answers.
+//! The number of calls of readers and writers, and the results made of their answers.
 ghost use Rattle.std.specs.Prelude.{◌≤◌, IfOk};
 
 use history_text::{Buffered, ReadFailed, TextSink, TextSource, Watched, WriteFault, write_piece};
 use std::io;
 use std::io::{ErrorKind, Read, Write};
 
-/// A reader and writer of std that answers its calls from a table, takes all where the table ends, and counts the
-/// calls.
+/// A reader and writer of std that counts its calls and answers them from a table. After the table's end it takes
+/// all.
 #[derive(Drop)]
 struct Told<'a> {
     answers: &'a [Result<usize, ErrorKind>],
@@ -23,7 +23,7 @@ impl<'a> Told<'a> {
         }
     }
 
-    /// The answer to the next call, of at most this many bytes.
+    /// Returns the answer to the next call, which is at most `most`.
     fn answer(&mut self, most: usize) -> io::Result<usize>
         ensures { IfOk result (λ n. n ≤ most) }
     {
@@ -61,21 +61,24 @@ const ANSWERS: [Result<usize, ErrorKind>; 4] = [
     Err(ErrorKind::Other),
 ];
 
-/// What a write of three bytes returns whose calls are answered so, and how often its writer is called and flushed.
+/// Returns the result of a write of three bytes whose calls are answered like this, and the numbers of calls and
+/// flushes of its writer.
 fn written(answers: &[Result<usize, ErrorKind>]) -> (Result<usize, WriteFault>, usize, usize) {
     let mut told = Told::new(answers);
     let written = TextSink::write(&mut Watched::new(&mut told), b"abc");
     (written, told.calls, told.flushes)
 }
 
-/// What a flush returns whose calls are answered so, and how often its writer is called and flushed.
+/// Returns the result of a flush whose calls are answered like this, and the numbers of calls and flushes of its
+/// writer.
 fn flushed(answers: &[Result<usize, ErrorKind>]) -> (Result<(), WriteFault>, usize, usize) {
     let mut told = Told::new(answers);
     let flushed = TextSink::flush(&mut Watched::new(&mut told));
     (flushed, told.calls, told.flushes)
 }
 
-/// What a read of three bytes returns whose calls are answered so, and how often its reader is called.
+/// Returns the result of a read of three bytes whose calls are answered like this, and the number of calls of its
+/// reader.
 fn read(answers: &[Result<usize, ErrorKind>]) -> (Result<usize, ReadFailed>, usize) {
     let mut told = Told::new(answers);
     let read = TextSource::read(&mut Watched::new(&mut told), &mut [0; 3]);
@@ -112,8 +115,8 @@ fn a_refused_piece_is_not_written_on(rt: HostRuntime) {
     }
 }
 
-/// How writing these pieces to a buffer ends, which is flushed afterwards or not, and how often a writer whose
-/// calls are answered so is called and flushed.
+/// Writes the pieces to a buffer, and flushes it if `is_flushed`. Returns the result, and the numbers of calls and
+/// flushes of a writer whose calls are answered like this.
 fn buffered(
     answers: &[Result<usize, ErrorKind>],
     pieces: &[&[u8]],
@@ -129,7 +132,7 @@ fn buffered(
     Ok((ended, told.calls, told.flushes))
 }
 
-/// More bytes than a buffer of 4,096 holds twice, and less than it holds three times.
+/// More bytes than fit twice into a buffer of 4,096, and fewer than fit three times.
 const MANY: [u8; 10_000] = [b'0'; 10_000];
 
 #[test]

@@ -1,4 +1,4 @@
-//! Texts of histories and verdicts, read and written. What is wrong with other texts stands in extras/answers.
+//! Texts of histories and verdicts, read and written. The faults of other texts are in extras/answers.
 ghost use Rattle.std.specs.Prelude.{◌≡◌, ◌∷◌, [], IfOk};
 ghost use Rattle.history_text.specs.declared.version.Version.TheVariants.{One};
 ghost use Rattle.claims.specs.declared.shown.LinePlace.TheVariants.{Op};
@@ -23,7 +23,7 @@ const TEXT: &[u8] = b"fifo-history 2\ninitial 3\n274877906944\n0\n18446744073709
 
 const OLD_TEXT: &[u8] = b"fifo-history 1\n0 0 call-enq 7\n1 0 ret-enq\nend 2\n";
 
-/// The version of a text and its history, which is alone in it.
+/// Reads the version and the history of a text that has nothing else.
 fn read_alone(alloc: Global, source: MemorySource<'_>) -> Result<(Version, History), Fail>
     ensures { IfOk result (λ read. read.0 ≡ One → read.1.initial ≡ []) }
 {
@@ -33,7 +33,7 @@ fn read_alone(alloc: Global, source: MemorySource<'_>) -> Result<(Version, Histo
     Ok((version, builder.finish()?))
 }
 
-/// The events of that text, whose initial values are these.
+/// Returns the events of that text, whose initial values are these.
 fn events_read(alloc: Global, initial: &[u64]) -> Result<Vec<Event>, Fail> {
     let (version, history) = read_alone(alloc, MemorySource::new(TEXT))?;
     if version != Version::Two || history.initial() != initial {
@@ -65,7 +65,7 @@ fn reads_values_and_events(rt: HostRuntime) -> Result<(), Fail> {
     Ok(())
 }
 
-/// How many events a history has that is all of its input, or the fault of that input.
+/// Returns the number of events of a history that is all of its input, or the fault of the input.
 fn outcome(alloc: Global, source: MemorySource<'_>) -> Outcome {
     let mut reader = TextReader::new(source);
     let (_, builder) = match known(read_history(alloc, &mut reader))? {
@@ -86,7 +86,8 @@ fn any_pieces_and_any_failure(rt: HostRuntime) -> Result<(), Fail> {
     Ok(())
 }
 
-/// What a history's text is written as in its version, and how a writer with room for 20 bytes is left.
+/// Returns a history's text, written again in its version, and whether a writer with room for 20 bytes fails after
+/// these.
 fn written_again(alloc: Global, text: &[u8]) -> Result<(Vec<u8>, bool), Fail> {
     let (version, whole) = read_alone(alloc, MemorySource::new(text))?;
     let mut writer = Watched::new(Vec::new(alloc));
@@ -113,8 +114,8 @@ fn writes_what_it_reads(rt: HostRuntime) -> Result<(), Fail> {
     Ok(())
 }
 
-/// What a reader of two histories returns: whether it is at its end before the first and after it, how many events
-/// that has, and the fault of the second.
+/// Reads two histories. Returns whether the reader is at its end before the first and after it (asked twice), the
+/// number of events of the first, and the fault of the second.
 fn two_histories(
     alloc: Global,
     source: MemorySource<'_>,
@@ -141,12 +142,12 @@ fn lines_count_on(rt: HostRuntime) -> Result<(), Fail> {
     Ok(())
 }
 
-/// A queue that was never empty, and was called so.
+/// A history with a false empty dequeue: the queue was never empty during it.
 const NEVER_EMPTY: &[u8] =
     b"fifo-history 1\n0 0 call-enq 7\n1 0 ret-enq\n2 1 call-deq\n3 0 call-enq 9\n4 0 ret-enq\n\
     5 0 call-deq\n6 0 ret-deq 7\n9 1 ret-empty\n10 0 call-deq\n11 0 ret-deq 9\nend 10\n";
 
-/// A `NO` on it: the second operation found the queue empty, though two values covered it.
+/// Returns a `NO` for it: the second operation found the queue empty, though two values covered it.
 fn covered_by_two(alloc: Global) -> Result<Verdict, AllocError>
     ensures { IfOk result (λ v. verdict_places v ≡ Op 1 ∷ Op 0 ∷ Op 3 ∷ Op 2 ∷ Op 4 ∷ []) }
 {
@@ -165,7 +166,7 @@ fn covered_by_two(alloc: Global) -> Result<Verdict, AllocError>
     }))
 }
 
-/// What is written of it.
+/// Returns the text of that verdict.
 fn verdict_written(alloc: Global) -> Result<Vec<u8>, Fail> {
     let (_, history) = read_alone(alloc, MemorySource::new(NEVER_EMPTY))?;
     if history.operations().len() != 5 {

@@ -1,4 +1,4 @@
-//! Texts of verdicts, read. What is wrong with others, and which of them are evidence, stands in extras/answers.
+//! Texts of verdicts, read. The faults of other texts, and which texts are evidence, are in extras/answers.
 ghost use Rattle.std.specs.Prelude.{◌<◌};
 
 use super::outcomes::{Outcome, assert_failures, known};
@@ -8,7 +8,7 @@ use std::alloc::Global;
 use std::test::Fail;
 use verdicts::Claimed;
 
-/// How many operations the verdict of an input lists, or the fault.
+/// Returns the number of operations that the verdict of an input lists, or the fault.
 fn outcome(alloc: Global, source: MemorySource<'_>) -> Outcome {
     match known(read_verdict(alloc, &mut TextReader::new(source)))? {
         Ok(Claimed::Yes(lines)) => Ok(Ok(lines.as_slice().len())),
@@ -20,7 +20,7 @@ fn outcome(alloc: Global, source: MemorySource<'_>) -> Outcome {
 const YES: &[u8] =
     b"YES\n0 1 0 enq 7\n2 3 63 deq 18446744073709551615\n4 999999999999 0 empty\n5 6 1 not 0\n";
 
-/// The operations of that text in pieces of this many bytes.
+/// Returns the operations of that text, read in pieces of `most` bytes.
 fn operations_read(alloc: Global, most: usize) -> Result<Vec<Operation>, Fail>
     requires { 0 < most }
 {

@@ -23,13 +23,13 @@ const BOTH: Condition = Condition {
     is_weakly_empty: true,
 };
 
-/// Whether a line of words asks for this task, and for this kind of answer.
+/// Returns whether the command line asks for this task, and for this kind of answer.
 fn asks_for(alloc: Global, line: &str, task: Task<'_>, is_quiet: bool) -> Result<bool, Fail> {
     let words: Vec<&str> = line.split_whitespace().collect(alloc)?;
     Ok(order_in(alloc, &words)? == Order { task, is_quiet })
 }
 
-/// Whether a line of words has a fault of this kind. Out of memory is an error of its own.
+/// Returns whether the command line has a fault of this kind. Out of memory is an error of its own.
 fn has_fault(alloc: Global, line: &str, kind: ErrorKind) -> Result<bool, AllocError> {
     let words: Vec<&str> = line.split_whitespace().collect(alloc)?;
     match order_in(alloc, &words) {
@@ -39,7 +39,7 @@ fn has_fault(alloc: Global, line: &str, kind: ErrorKind) -> Result<bool, AllocEr
     }
 }
 
-/// A picture of this form, of what is this near or of all.
+/// Returns the task of a picture of this form, around this operation or of all.
 fn drawing(form: PictureForm, around: Option<usize>) -> Task<'static> {
     Task::Draw(DrawOptions {
         form,
@@ -111,7 +111,7 @@ fn words_name_tasks(rt: HostRuntime) -> Result<(), Fail> {
     Ok(())
 }
 
-/// The options that a run has where none is given but the queue.
+/// The options of a run for which only the queue is given.
 const DEFAULTS: StressOptions<'_> = StressOptions {
     queue: "locked",
     threads: 2,
@@ -123,11 +123,11 @@ const DEFAULTS: StressOptions<'_> = StressOptions {
     condition: STRICT,
 };
 
-/// The greatest options but one, in another order than in the help.
+/// All options at their maximum but one, shuffled.
 const GREATEST: &str = "fifobench stress --ring=65536 --percent 0 --seed 4294967295 --ops 100000 \
     --weak-empty --threads 32 --initial=1000 --queue=two-lock --local";
 
-/// What they ask for.
+/// The options of that command line.
 const GREATEST_OPTIONS: StressOptions<'_> = StressOptions {
     queue: "two-lock",
     threads: 32,

@@ -1,4 +1,4 @@
--- Accepted values by the places of their operations on a timeline.
+-- Enqueued values by the places of their operations in a timeline.
 use Rattle.std.specs.Prelude.{◌≡◌, ℕ, All, List, Option, Some, None, map, option_map, slice_index_or}
 use Rattle.history_merge.specs.declared.operation.Operation.{Operation}
 use Rattle.history_merge.specs.declared.operation.OpKind.TheVariants.{Enq}
@@ -15,16 +15,16 @@ pub record PlacedLife : Type 0 where
   pub enqueue : ℕ
   pub dequeue : Option ℕ
 
--- the operation at the place; out of range any
+-- the operation at this place; out of range, any
 abbrev pub operation_at : List Operation → ℕ → Operation
 operation_at operations place = slice_index_or operations place (record { call = 0; ret = 0; thread = 0; kind = Enq 0 })
 
--- the operation at the place, if there is a place
+-- the operation at this place, if there is one
 abbrev pub maybe_operation_at : List Operation → Option ℕ → Option Operation
 maybe_operation_at operations None = None
 maybe_operation_at operations (Some place) = Some (operation_at operations place)
 
--- the value whose operations stand at these places
+-- the value whose operations have these places
 abbrev pub value_at : List Operation → Pair → PlacedLife
 value_at operations pair = record {
   life = record { enqueue = operation_at operations pair.enqueue; dequeue = maybe_operation_at operations pair.dequeue };
@@ -40,7 +40,7 @@ HasPlaces operations m = IsAt operations m.enqueue (enqueue_of m.life) × IsMayb
 abbrev pub HoldsLives : List Operation → List PlacedLife → Type 0
 HoldsLives operations values = (map (λ m. m.life) values ≡ lives_of operations) × All (HasPlaces operations) values
 
--- the same by the places of the history, on whose timeline this many initial values come first
+-- the value by its places in the history, whose timeline begins with this many initial values
 abbrev pub told_at : ℕ → List Operation → Pair → MatchedValue
 told_at initial_count timeline pair = record {
   life = (value_at timeline pair).life;

@@ -1,4 +1,4 @@
--- Operations by their times, whatever they are of, as a course.
+-- Operations on the scale of times, as a course.
 use Rattle.std.specs.Prelude.{List}
 use Rattle.history_merge.specs.declared.operation.Operation.{Operation}
 use Rattle.history_merge.specs.declared.operation.OpKind.TheVariants.{Enq}
@@ -6,7 +6,7 @@ use Rattle.history_merge.specs.Complete.{AreComplete}
 use Rattle.history_merge.specs.Operations.{Did}
 use Rattle.value_match.specs.Lives.{Course, lives_of}
 
--- values come in by the successful enqueues among the operations alone
+-- the course of operations, in which values come in by successful enqueues alone
 abbrev pub on : List Operation → Course
 on operations = record {
   operations = operations;

@@ -1,4 +1,4 @@
--- What is found of operations before they are those of a matching.
+-- The operations of a timeline by kind, before they are those of a matching.
 use Rattle.std.specs.Prelude.{◌≤◌, List, length, map}
 use Rattle.history_merge.specs.declared.operation.Operation.{Operation}
 use Rattle.value_match.specs.Inner.Courses.{on}
@@ -8,7 +8,8 @@ use Rattle.value_match.specs.Inner.Accepted.{HoldsLives, value_at}
 use Rattle.value_match.specs.Lives.{HoldsPlaces, is_empty_answer, is_refused}
 use Rattle.value_match.specs.Violations.{IsClear}
 
--- the values, the empty answers and the refused enqueues are those of these operations, which have neither of the first two kinds of violation
+-- the values, the empty dequeues and the failed enqueues are those of these operations, which have neither of the
+-- first two kinds of violation
 pub record IsSortedOutOf (operations : List Operation) (sorted : SortedOut) : Type 0 where
   pub few : length operations ≤ MAX_MATCHED
   pub clear : IsClear (on operations)

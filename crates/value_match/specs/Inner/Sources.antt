@@ -1,4 +1,4 @@
--- From each dequeue to the call that enqueued its value, and back.
+-- The call that enqueued the value of each dequeue, and the dequeue of each call.
 use Rattle.std.specs.Prelude.{◌≡◌, ℕ, ◌+◌, ◌<◌, List, length, slice_get, slice_index_or, Option, Some, None, Contains}
 use Rattle.std.specs.Option.{option_map_or}
 use Rattle.history_merge.specs.declared.operation.Operation.{Operation}
@@ -10,12 +10,12 @@ use Rattle.value_match.specs.Lives.{IsMaybeAt}
 use Rattle.value_match.specs.Violations.{IsFreshViolation}
 use Rattle.value_match.specs.declared.sources.Sources.{Sources}
 
--- the place is that of an operation that called to enqueue this value; there is none only where none did
+-- the place is that of an operation that called to enqueue this value, or none if none did
 abbrev pub IsCallPlace : List Operation → ℕ → Option ℕ → Type 0
 IsCallPlace operations v None = (o : Operation) → Contains operations o → ¬ (enqueued_value o.kind ≡ Some v)
 IsCallPlace operations v (Some place) = (o : Operation) × IsAt operations place o × (enqueued_value o.kind ≡ Some v)
 
--- the place is that of the call for the value that a dequeue gave; other operations have none
+-- the place is that of the call for the value of a dequeue; other operations have none
 abbrev pub IsSourceOf : List Operation → OpKind → Option ℕ → Type 0
 IsSourceOf operations (Deq v) source = IsCallPlace operations v source
 IsSourceOf operations _ source = source ≡ None
@@ -25,11 +25,11 @@ pub record HoldsSources (operations : List Operation) (from : ℕ) (sources : Li
   pub one_each : from + length sources ≡ length operations
   pub each : (i : ℕ) (o : Operation) → IsAt operations (from + i) o → IsSourceOf operations o.kind (slice_index_or sources i None)
 
--- the operation is a dequeue of a value that was not there; the call for its value, if there is one, is at the place
+-- the operation is a phantom dequeue; the call for its value, if there is one, is at this place
 abbrev pub IsFreshFrom : List Operation → Option ℕ → Operation → Type 0
 IsFreshFrom operations source deq = (enq : Option Operation) × IsMaybeAt operations source enq × IsFreshViolation (on operations) deq enq
 
--- none of the first n operations is a dequeue of a value that was not there
+-- none of the first n operations is a phantom dequeue
 abbrev pub NoneFresh : List Operation → ℕ → Type 0
 NoneFresh operations n = (k : ℕ) (o : Operation) → k < n → IsAt operations k o → (enq : Option Operation) → ¬ (IsFreshViolation (on operations) o enq)
 
@@ -47,12 +47,12 @@ pub record HasTakersTo (operations : List Operation) (n : ℕ) (takers : List (O
   pub taken : (p i : ℕ) → slice_index_or takers p None ≡ Some i → (i < n) × TakesFrom operations i p
   pub takes : (i p : ℕ) → i < n → TakesFrom operations i p → slice_index_or takers p None ≡ Some i
 
--- of the first n operations none is a dequeue of a value that was not there, and no two take from one place
+-- the first n operations are a matched prefix: none is a phantom dequeue, and no two take from one place
 pub record AreSettled (operations : List Operation) (n : ℕ) (takers : List (Option ℕ)) : Type 0 where
   pub in_time : NoneFresh operations n
   pub noted : HasTakersTo operations n takers
 
--- the first operations are settled, and the places are the sources of the others
+-- the matched prefix, and the sources of the operations after it
 pub record AreSources (operations : List Operation) (sources : Sources) : Type 0 where
   pub settled : AreSettled operations sources.settled sources.takers.items
   pub holds : HoldsSources operations sources.settled sources.places.items
@@ -61,12 +61,12 @@ pub record AreSources (operations : List Operation) (sources : Sources) : Type 0
 abbrev pub return_at : List Operation → ℕ → ℕ
 return_at operations place = option_map_or (λ o. o.ret) (slice_get operations place) 0
 
--- the place is that of a dequeue of this value; there is none only where the value was never dequeued
+-- the place is that of a dequeue of this value, or none if the value was never dequeued
 abbrev pub IsDequeuePlace : List Operation → ℕ → Option ℕ → Type 0
 IsDequeuePlace operations v None = NoneDid operations (Deq v)
 IsDequeuePlace operations v (Some place) = (o : Operation) × IsAt operations place o × (o.kind ≡ Deq v)
 
--- at the place of each successful enqueue stands that of the dequeue of its value, if there is one
+-- at the place of each successful enqueue stands that of its value's dequeue, if there is one
 pub record HoldsDequeues (operations : List Operation) (dequeues : List (Option ℕ)) : Type 0 where
   pub one_each : length dequeues ≡ length operations
   pub each : (i : ℕ) (o : Operation) (v : ℕ) → IsAt operations i o → o.kind ≡ Enq v → IsDequeuePlace operations v (slice_index_or dequeues i None)

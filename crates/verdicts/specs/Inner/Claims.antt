@@ -1,4 +1,4 @@
--- What serves the look-up of the lines of a claim.
+-- Relations for looking up the lines of a claim.
 use Rattle.std.specs.Prelude.{◌<◌, ℕ, List, AllPairs, Option, None, Some}
 use Rattle.history_merge.specs.declared.operation.Operation.{Operation}
 use Rattle.history_merge.specs.declared.operation.OpKind.{OpKind}

@@ -1,4 +1,4 @@
--- How the lines of a violation select initial values and operations.
+-- Selection of initial values and operations by the lines of a violation.
 use Rattle.std.specs.Prelude.{◌↔◌, ◌||◌, ℕ, Bool, IsTrue, List, Contains, filter_map, nat_eq, Option, Some, None}
 use Rattle.std.specs.List.{list_any}
 use Rattle.history_merge.specs.declared.operation.Operation.{Operation}

@@ -1,4 +1,4 @@
--- Where a line of a plan ends.
+-- The end of a line of a plan.
 use Rattle.std.specs.Prelude.{ℕ, Bool, ◌==◌, nat_le, List, length}
 use Rattle.workloads.specs.declared.texts.TheConstants.{LINE_FEED}
 use Rattle.event_records.specs.declared.limits.TheConstants.{MAX_THREAD_OPERATIONS}
@@ -7,6 +7,6 @@ use Rattle.event_records.specs.declared.limits.TheConstants.{MAX_THREAD_OPERATIO
 abbrev pub ends_line : ℕ → Bool
 ends_line byte = byte == LINE_FEED
 
--- whether one worker may have a line of these bytes
+-- whether the line of one worker may have these bytes
 abbrev pub is_short_line : List ℕ → Bool
 is_short_line line = nat_le (length line) MAX_THREAD_OPERATIONS

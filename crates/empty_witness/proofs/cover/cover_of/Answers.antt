@@ -11,7 +11,7 @@ loop-frontier-init c =
     (no_steps_yet c.args.matching.now.initial c.args.matching.now.operations c.values-values.result c.args.answer.now
     c.values-values.ensures.clear c.values-values.ensures.values c.requires.is_empty c.requires.covered)
 
--- the table has all that may be longest
+-- the table finds the longest of all values
 finds : (c : After-longest_before) → FindsLongest (EntersBefore c.loop-frontier.frontier) c.values-values.result c.longest_before.result
 finds c =
     let others = subst (λ values. FindsLongest (EntersBefore c.loop-frontier.frontier) values c.longest_before.result)

@@ -10,7 +10,7 @@ returns-then-last-span t c =
     rw (c.in-Some.ensures.items, c.in_ok-push-3.ensures.items, c.in_ok-push-2.ensures.items)
     (after_last c.pop.new.self.items c.in-Some.last c.args.span are c.requires.holds_some c.if-last-span.true)
 
--- those before the last are fewer
+-- there are fewer spans before the last than in all
 fewer : (spans before : List Span) (last : Span) → spans ≡ before ++ last ∷ [] → length before < length spans
 fewer spans before last items = let long = length-append before (last ∷ []) in let same = ap length items in omega (arith, long, same)
 

@@ -14,7 +14,7 @@ use Rattle.history_merge.proofs.PlaceLists.{as_many_placed, one_more_placed, sta
 use Rattle.history_merge.proofs.part.part_at.Goals.{in-Some+in_ok-push, in_default}
 use Rattle.history_merge.proofs.part.part_at.Goals as goal
 
--- an operation of a complete history lies in the range of tickets
+-- an operation of a complete history is in the range of tickets
 in_range : (events : List Event) (operations : List Operation) (place : ℕ) (o : Operation) → operations ≡ operations_of events → IsCompleteHistory events
     → slice_get operations place ≡ Some o → (o.call < o.ret) × (o.ret ≤ MAX_TICKET)
 in_range events operations place o is complete at =

@@ -2,7 +2,7 @@ use Rattle.history_text.proofs.Common.{[], append_assoc, codes, count_fields, de
 use Rattle.history_text.proofs.Common.{spaced, ℕ, ◌++◌, ◌∷◌, ◌≡◌}
 use Rattle.history_text.proofs.history_writer.put_before_events.Goals as goal
 
--- a line of a header, a word, a number and a line feed are the header and the count line
+-- the header line, a word, a number and a line feed are the header and the count line
 begun : (n : ℕ) (a b d e : List ℕ) → a ≡ [] → b ≡ a ++ (line (codes "fifo-history 2") ++ codes "initial ") → d ≡ b ++ decimal n
     → e ≡ d ++ 10 ∷ [] → e ≡ line (codes "fifo-history 2") ++ line (spaced (count_fields n))
 begun n a b d e empty word digits ending =

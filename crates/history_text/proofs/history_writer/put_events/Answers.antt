@@ -3,11 +3,11 @@ use Rattle.history_text.proofs.Common.{flat_map-append, HasValueInRange, List, s
 use Rattle.history_text.proofs.Common.{◌∙◌, ◌∷◌, ◌≡◌}
 use Rattle.history_text.proofs.history_writer.put_events.Goals as goal
 
--- the text of what was seen and of what is left is that of all
+-- the text of the seen events and of those left is the text of all
 parts : (seen left all : List Event) → seen ++ left ≡ all → flat_map event_line seen ++ flat_map event_line left ≡ flat_map event_line all
 parts seen left all is = sym (flat_map-append event_line seen left) ∙ ap (flat_map event_line) is
 
--- if nothing is left, all was seen
+-- if no event is left, all were seen
 whole : (seen left all : List Event) → left ≡ [] → seen ++ left ≡ all → seen ≡ all
 whole seen left all none is = sym (append-nil seen) ∙ ap (λ (es : List Event). seen ++ es) (sym none) ∙ is
 

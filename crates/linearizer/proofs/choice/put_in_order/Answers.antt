@@ -21,14 +21,14 @@ pub first_left-first_out-requires-clause-flagged : goal.first_left-first_out-req
 first_left-first_out-requires-clause-flagged c = rw c.deref-in-loop-entries.ensures.value
     (flags_within dequeue_return _ _ _ (rw c.as_slice-dequeues.ensures.value c.in_ok-by_time.ensures.dequeues) c.loop-entries.invariant.one_flag_each)
 
--- the cursors stand at the first that is left of each list
+-- each cursor is at the first entry of its list that is left
 entered : (c : After-first_left-first_in) → IsFirstLeft c.as_slice-entries.result.now c.loop-entries.taken.items c.first_left-first_in.result
 entered c = rw c.deref.ensures.value at c.first_left-first_in.ensures
 
 dequeued : (c : After-first_left-first_out) → IsFirstLeft c.as_slice-dequeues.result.now c.loop-entries.taken.items c.first_left-first_out.result
 dequeued c = rw c.deref-in-loop-entries.ensures.value at c.first_left-first_out.ensures
 
--- some value is left, so the first cursor stands at an entry
+-- some value is left, so the first cursor is at an entry
 inside : (c : After-first_left-first_in) → c.first_left-first_in.result < length c.as_slice-entries.result.now
 inside c =
     let fewer : length (places_in c.loop-entries.order.items) < length c.args.values.now = omega (
@@ -51,7 +51,7 @@ module _ (c : After-unpack-entry) (within : c.first_left-first_in.result < lengt
   at_first : slice_get c.as_slice-entries.result.now c.first_left-first_in.result ≡ Some c.unpack-entry.result
   at_first = slice_get_read _ _ _ _ refl within c.index-entries-first_in.is ∙ ap Some (sym c.unpack-entry.ensures)
 
-  -- it is the least of those that are left
+  -- this entry is the least of those that are left
   least : IsLeastLeft entered_by c.args.values.now c.loop-entries.taken.items c.unpack-entry.result
   least = least_left entered_by _ _ _ (rw c.as_slice-entries.ensures.value c.in_ok-by_time.ensures.entries) _
       (rw c.deref.ensures.value at c.first_left-first_in.ensures) _ at_first
@@ -76,7 +76,7 @@ module _ (c : After-choice-next) (within : c.first_left-first_in.result < length
       (rw c.deref.ensures.value at c.first_left-first_in.ensures) (rw c.deref-in-loop-entries.ensures.value at c.first_left-first_out.ensures)
       (slice_get_read _ _ _ _ refl within c.index-entries-first_in.is ∙ ap Some (sym c.unpack-entry.ensures)) c.dequeued_at.ensures c.choice-next.ensures
 
-  -- it is in range
+  -- the choice is in range
   chosen_within : c.choice-next.result < length c.args.values.now
   chosen_within = slice_get_within c.args.values.now c.choice-next.result next.value next.is_at
 

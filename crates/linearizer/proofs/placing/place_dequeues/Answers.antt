@@ -27,7 +27,7 @@ left_is c = c.max-left.ensures ∙ ap (λ n. max n c.loop-so_far.so_far.left) c.
 within : (c : After-max-left) → c.loop-so_far.so_far.dequeues < length (ordered_lives c.args.matching.now c.args.order.now)
 within c = slice_get_within _ _ _ (turn c).at
 
--- the time from which all values up to this one can have left, where those before it are merged
+-- the time from which all values up to this one can have left, once those before it are merged
 left_so_far : (c : After-max-left) (i : ℕ) → IsMergedUpTo c.args.matching.now
     (ordered_lives c.args.matching.now c.args.order.now) c.args.noops.now i c.loop-so_far.so_far.dequeues c.loop-so_far.so_far.left
     c.loop-so_far.so_far.noops c.loop-so_far.places.items

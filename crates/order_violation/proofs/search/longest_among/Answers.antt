@@ -20,7 +20,7 @@ loop-place-preserved c =
           within c.get-a.ensures c.loop-place.invariant (λ passes. let yes = w.if-overtakes.ensures.1 passes in cc))
     ]
 
--- a value that is dequeued first by its place isn't overtaken
+-- a value that is dequeued first, by its place, isn't overtaken
 pub loop-place-preserved-in-loop-place : goal.loop-place-preserved-in-loop-place
 loop-place-preserved-in-loop-place c =
     let values = c.values-values.result in

@@ -12,7 +12,7 @@ read c = get_or c.args.operations.now c.loop-place.place (record { call = 0; ret
 here : (c : After-index-sources-place) → IsAt c.args.operations.now c.loop-place.place (read c)
 here c = slice_get-get_or c.args.operations.now c.loop-place.place _ c.loop-place-test.true
 
--- what is read beside it is its source
+-- the source read with it is its source
 source : (c : After-index-sources-place) (o : Operation) → IsAt c.args.operations.now c.loop-place.place o
     → IsSourceOf c.args.operations.now o.kind c.index-sources-place.result
 source c o at =

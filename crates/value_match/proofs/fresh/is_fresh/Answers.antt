@@ -4,7 +4,7 @@ use Rattle.value_match.proofs.FreshDequeues.{fresh_at_none, fresh_at_some}
 use Rattle.value_match.proofs.fresh.is_fresh.Goals.{In-Deq}
 use Rattle.value_match.proofs.fresh.is_fresh.Goals as goal
 
--- the call is that for the value of the dequeue
+-- the call is to enqueue the value of the dequeue
 call : (c : In-Deq) → IsCallPlace c.args.operations.now c.in-Deq.field-0 c.args.source
 call c = let here = slice_get_read _ _ _ _ refl c.requires.place c.index-operations-place.is ∙ ap Some (sym c.unpack-operation.ensures.operation) in
     subst (λ kind. IsSourceOf c.args.operations.now kind c.args.source) c.in-Deq.is (c.requires.source _ here)

@@ -20,7 +20,7 @@ here c =
           (source_at _ _ _ _ _ c.requires.sources c.loop-place.auto.place at),
     )
 
--- it takes from the source that was read
+-- the operation takes from the source that was read
 from : (c : In-Some) → TakesFrom c.args.operations.now c.loop-place.place c.in-Some.source
 from c =
     let o = here (goal.at.In-Some c).After-get in
@@ -29,7 +29,7 @@ from c =
 below : (c : In-Some) → c.in-Some.source < length c.loop-place.firsts.items
 below c = let inside = source_inside _ _ _ (from c) in omega (arith, inside, c.loop-place.invariant.kept.one_each)
 
--- the other operation that takes from it came before
+-- the other operation that takes from the source came before
 held : (c : In-Some-get) → get_or c.loop-place.firsts.items c.in-Some.source None ≡ Some c.in-Some-get.other
 held c =
     sym (get_or_read c.loop-place.firsts.items _ _ (below (goal.at.In-Some-get c).In-Some) c.index.ensures None)

@@ -28,7 +28,7 @@ invariant_of-self c =
     let same = told _ _ _ left in
     grind (arith, left_as_told, still_none)
 
--- an item more lowers the number of those that are left
+-- one more item leaves fewer
 goes : (old new : List Event) (e : Event) → old ≡ e ∷ new
     → MakesProgress {S = List Event} {A = Event} (λ _. Unit {0}) (item_count {S = List Event} {A = Event} (λ rest. rest)) old (Some e) new
 goes old new e is = grind arith
@@ -51,7 +51,7 @@ given : (c : After-branch-event) (e : Event) → c.first_due-due.result ≡ Some
     → GivesReturn (put_each c.self.inside.due (events_of c.self.inside.by_call)) e c.self.inside.by_call c.self.inside.due
 given c e is = gives_return _ _ _ e c.self.invariant.0 (rw is at (is_first c)) (rw is at c.in_default.ensures)
 
--- nothing is left
+-- no event is left
 pub returns-in_err-event-clause-steps : goal.returns-in_err-event-clause-steps
 returns-in_err-event-clause-steps c =
     let first = is_first (goal.at.returns-in_err-event-clause-steps c).After-branch-event in

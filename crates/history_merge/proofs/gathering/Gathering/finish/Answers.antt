@@ -14,7 +14,7 @@ returns-in-Some-least_pending-clause-outcome c = λ initial events gathered.
     let least = c.in-Some-least_pending.ensures events known.formed in
     (known.distinct, known.no_fault, least.1)
 
--- nothing is pending
+-- no call is pending
 whole : (c : After-into_timeline) (initial : List ℕ) (events : List Event) → HasGathered initial events c.args.self → IsCompleteFrom initial events
 whole c initial events gathered = grind (arith, still_forming, complete_without_fault)
 

@@ -3,7 +3,7 @@ use Rattle.history_merge.proofs.Timelines.{completed, is_timeline, operations_ba
 use Rattle.history_merge.proofs.timeline.Timeline.complete.Goals.{After-self-1}
 use Rattle.history_merge.proofs.timeline.Timeline.complete.Goals as goal
 
--- the timeline of the operations, of which that at the place is completed
+-- the timeline with the operation at this place completed
 changed : (c : After-self-1) → set c.self.inside.all.items (c.len.result + c.args.place) c.new.result
     ≡ timeline c.self.inside.initial.items (set c.args.self.now.operations c.args.place
     (record (get_or c.args.self.now.operations c.args.place c.index.result.now) { ret = c.args.ret; kind = c.args.kind }))

@@ -3,7 +3,7 @@ use Rattle.verdicts.proofs.Common.{◌∷◌, ◌≡◌}
 use Rattle.verdicts.proofs.Collected.{held_more, held_same}
 use Rattle.verdicts.proofs.selection.Selection.tickets.Goals as goal
 
--- what was seen, and one more
+-- the operations seen, and one more
 gone_over : (seen left rest all : List Operation) (o : Operation) → left ≡ o ∷ rest → seen ++ left ≡ all → (seen ++ o ∷ []) ++ rest ≡ all
 gone_over seen left rest all o first is = append_assoc seen (o ∷ []) rest ∙ ap (λ os. seen ++ os) (sym first) ∙ is
 
