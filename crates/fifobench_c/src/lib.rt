@@ -1,7 +1,8 @@
 //! The commands as functions for callers in C, C++ and Rust: a static library.
 //!
-//! Each function judges what the caller's memory holds and writes its answer into the caller's buffer. It starts no thread,
-//! reads and writes no file, and keeps nothing when it returns. The header is `library/fifobench.h`.
+//! Each function judges a text or events in the caller's memory, and writes its answer into the caller's buffer. It
+//! starts no thread, reads and writes no file, and keeps nothing after it returns. The header is
+//! `library/fifobench.h`.
 #![tactic(auto)]
 
 mod filling;
@@ -42,9 +43,9 @@ const INTERFACE: u32 = 1;
 /// The bits of linearizability itself.
 const LINEARIZABILITY: u32 = 0;
 
-/// What `check` answers of the text.
+/// Writes the answer of `check` about the text.
 ///
-/// Time and memory as of the command in one thread, and memory for the answer beside it.
+/// Takes the time and memory of the command in one thread, and memory for the answer.
 #[unsafe(no_mangle)]
 pub extern "C" fn fifobench_check(
     alloc: Global,
@@ -57,7 +58,7 @@ pub extern "C" fn fifobench_check(
     fifobench_check_under(alloc, text, LINEARIZABILITY, answer, needed)
 }
 
-/// What `shrink` answers of the text.
+/// Writes the answer of `shrink` about the text.
 #[unsafe(no_mangle)]
 pub extern "C" fn fifobench_shrink(
     alloc: Global,
@@ -70,7 +71,7 @@ pub extern "C" fn fifobench_shrink(
     fifobench_shrink_under(alloc, text, LINEARIZABILITY, answer, needed)
 }
 
-/// What `verify` answers of the text.
+/// Writes the answer of `verify` about the text.
 #[unsafe(no_mangle)]
 pub extern "C" fn fifobench_verify(
     alloc: Global,
@@ -83,9 +84,9 @@ pub extern "C" fn fifobench_verify(
     fifobench_verify_under(alloc, text, LINEARIZABILITY, answer, needed)
 }
 
-/// What `check` answers of the text under a condition: linearizability, or the weaker ones of its bits.
+/// Writes the answer of `check` about the text under a condition: linearizability, or a weaker condition by its bits.
 ///
-/// Bit 0 asks for `--local`, and bit 1 for `--weak-empty`; the others say nothing.
+/// Bit 0 stands for `--local`, and bit 1 for `--weak-empty`. The other bits are ignored.
 #[unsafe(no_mangle)]
 pub extern "C" fn fifobench_check_under(
     alloc: Global,
@@ -104,7 +105,7 @@ pub extern "C" fn fifobench_check_under(
     )
 }
 
-/// What `shrink` answers of the text under a condition, by its bits.
+/// Writes the answer of `shrink` about the text under a condition, by its bits.
 #[unsafe(no_mangle)]
 pub extern "C" fn fifobench_shrink_under(
     alloc: Global,
@@ -123,7 +124,7 @@ pub extern "C" fn fifobench_shrink_under(
     )
 }
 
-/// What `verify` answers of the text under a condition, by its bits.
+/// Writes the answer of `verify` about the text under a condition, by its bits.
 #[unsafe(no_mangle)]
 pub extern "C" fn fifobench_verify_under(
     alloc: Global,
@@ -142,7 +143,7 @@ pub extern "C" fn fifobench_verify_under(
     )
 }
 
-/// The condition of these bits.
+/// Returns the condition of these bits.
 fn condition_of(bits: u32) -> Condition
     ensures { result ≡ condition_of bits }
 {
@@ -152,7 +153,7 @@ fn condition_of(bits: u32) -> Condition
     }
 }
 
-/// What `draw` answers of the text: an SVG document.
+/// Writes the answer of `draw` about the text, an SVG document.
 #[unsafe(no_mangle)]
 pub extern "C" fn fifobench_draw(
     alloc: Global,
@@ -166,7 +167,7 @@ pub extern "C" fn fifobench_draw(
     tell(alloc, &draw_text(alloc, text, options), answer, needed)
 }
 
-/// What `draw --text` answers of the text: lines of characters.
+/// Writes the answer of `draw --text` about the text, lines of characters.
 #[unsafe(no_mangle)]
 pub extern "C" fn fifobench_draw_text(
     alloc: Global,
@@ -180,7 +181,7 @@ pub extern "C" fn fifobench_draw_text(
     tell(alloc, &draw_text(alloc, text, options), answer, needed)
 }
 
-/// What `complete` answers of the text: the completion of a history whose calls may be pending.
+/// Writes the answer of `complete` about the text: the completion of a history with pending calls.
 #[unsafe(no_mangle)]
 pub extern "C" fn fifobench_complete(
     alloc: Global,
@@ -193,7 +194,7 @@ pub extern "C" fn fifobench_complete(
     tell(alloc, &complete_text(alloc, text, false), answer, needed)
 }
 
-/// What `stats` answers of the text.
+/// Writes the answer of `stats` about the text.
 #[unsafe(no_mangle)]
 pub extern "C" fn fifobench_stats(
     alloc: Global,
@@ -206,9 +207,10 @@ pub extern "C" fn fifobench_stats(
     tell(alloc, &stats_text(alloc, text), answer, needed)
 }
 
-/// What `check` answers of the events, of a queue that is empty first.
+/// Writes the answer of `check` about the events of a queue that is empty at first.
 ///
-/// More events than a history may have are refused; then the first that is none of the six kinds, by its place from 0.
+/// It refuses more events than a history may have. After that it refuses an event that is none of the six kinds, the
+/// first one, by its place from 0.
 #[unsafe(no_mangle)]
 pub extern "C" fn fifobench_check_events(
     alloc: Global,
@@ -216,7 +218,7 @@ pub extern "C" fn fifobench_check_events(
     answer: &mut [u8],
     needed: &mut usize,
 ) -> u8
-    // Events of known kinds are judged as `check` judges a history, of a queue that is empty first.
+    // Events of known kinds are judged as `check` judges a history of a queue that is empty at first.
     ensures judged { (list : List Event) → AreEvents events.now list → length list ≤ MAX_EVENTS
         → TellsOneOf (AnswersOrNoMemory (JudgesHistory linearizability) (from_none list)) answer.old answer.new needed.new result }
     ensures unknown { (place : ℕ) → length events.now ≤ MAX_EVENTS → IsFirstUnknown events.now place
@@ -238,7 +240,7 @@ pub extern "C" fn fifobench_check_events(
     }
 }
 
-/// The number of this interface. It changes where a caller of an earlier one has to be compiled anew.
+/// Returns the number of this interface. It changes if callers of an earlier one have to be compiled again.
 #[unsafe(no_mangle)]
 pub extern "C" fn fifobench_interface() -> u32
     ensures { result ≡ 1 }
