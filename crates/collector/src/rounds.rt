@@ -144,7 +144,7 @@ fn drain_each(rings: &mut Vec<Drained>, max: usize) -> Result<u64, AllocError>
 {
     let mut total = 0;
     for place in 0..rings.len() {
-        // Tells the proof that the place is that of a thread, below `MAX_THREADS`, so that the sum fits.
+        // Shows the proof that the place is that of a thread, below `MAX_THREADS`, so that the sum fits.
         let _thread = rings[place].thread();
         total += rings[place].drain(max)?;
     }

@@ -145,7 +145,7 @@ pub fn verify_local(
     ensures exact { IfOk result (λ valid. IsTrue valid ↔ IsTrueLocalClaim emptiness (contents_of history.now) claimed.now) }
 {
     let selections = selections_of(alloc, history, emptiness)?;
-    // Tells the proof that the history is complete and within the limits, as the contracts of these calls say.
+    // Shows the proof that the history is complete and within the limits, as the contracts of these calls say.
     let _initial = history.initial();
     match claimed {
         Claimed::Yes(lines) => are_orders_in_turn(alloc, history, &selections, lines.as_slice()),

@@ -217,7 +217,7 @@ pub fn decide_local_by<S: WitnessSearch>(
     ensures { IfOk result (IsLocallyDecided emptiness (contents_of history.now)) }
 {
     let selections = selections_of(alloc, history, emptiness)?;
-    // Tells the proof that the history is complete and within the limits, as the contracts of these calls say.
+    // Shows the proof that the history is complete and within the limits, as the contracts of these calls say.
     let _initial = history.initial();
     decide_selections(search, alloc, history, &selections)
 }

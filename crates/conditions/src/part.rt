@@ -26,7 +26,7 @@ pub(crate) fn part_of(
     ensures { IfOk result (λ part. (values empties : ℕ → Bool) → AreSelected (contents_of history.now) values empties initial.items places.items
         → IsPart history.now (select values empties (contents_of history.now)) part) }
 {
-    // Tells the proof that the history is complete and within the limits, as the contract of this call says.
+    // Shows the proof that the history is complete and within the limits, as the contract of this call says.
     let _operations = history.operations();
     let history = part_at(alloc, history, initial, places.as_slice())?;
     Ok(Part { history, places })

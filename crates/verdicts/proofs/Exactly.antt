@@ -1,5 +1,5 @@
--- A complete history has a linearization if and only if it has no violation: a violation rules out each order, and
--- without one there is a legal order.
+-- A complete history has a linearization if and only if it has no violation: a violation rules out every order, and
+-- without one a linearization is built.
 use Rattle.verdicts.proofs.Common.{[], accept, accept_all, AllZip, ap, append-nil, AreComplete, AreLeastFreeGaps}
 use Rattle.verdicts.proofs.Common.{arith, call_by_return, call_or_never, cases_order, chosen_cover}
 use Rattle.verdicts.proofs.Common.{chosen_order_exists, Contains, Contains-permutation, contains_at, CoversFrom, Deq}
