@@ -18,8 +18,9 @@ pub fn conditions_are_weaker()
     ensures both { BothAreWeakest }
 {}
 
-/// Proves that a minimal part of a history without its empty dequeues, as [`verdicts::shrink`] returns one, is minimal for weak
-/// emptiness, and that a minimal part of a producer's selection is minimal for local linearizability.
+/// Proves that a minimal part of a history without its empty dequeues, as [`verdicts::shrink`] returns one, is
+/// minimal for weak emptiness, and that a minimal part of a producer's selection is minimal for local
+/// linearizability.
 pub fn shrunk_selections_are_minimal()
     ensures weak { StaysWeaklyMinimal }
     ensures local { StaysLocallyMinimal }

@@ -92,7 +92,8 @@ fn thread_at(bytes: &[u8], at: usize) -> Option<(u8, usize)>
 /// Parses the word, the value if there is one, and the line feed at `at`. Returns the kind of the event with the
 /// place after them.
 ///
-/// Eight bytes are compared at once. Calls are separated from returns first, so that fewer branches are hard to predict.
+/// Eight bytes are compared at once. Calls are separated from returns first, so that fewer branches are hard to
+/// predict.
 #[inline(always)]
 fn what_at(bytes: &[u8], at: usize) -> Option<(What, usize)>
     requires { at + 34 ≤ length bytes.now }
