@@ -1,6 +1,7 @@
 //! Laws of the conditions, as contracts of functions that do nothing when they run.
-ghost use Rattle.conditions.specs.ClaimLaws.{FirstRefutedIsOne, LocalEvidenceIsTrueClaim, LocalVerdictIsOne, RefutedIsRefutedInTheWhole};
-ghost use Rattle.conditions.specs.ClaimLaws.{TrueLocalClaimDecides, TrueWeakClaimDecides, WeakEvidenceIsTrueClaim, WeakVerdictIsOne};
+ghost use Rattle.conditions.specs.ClaimLaws.{FirstRefutedIsOne, LocalEvidenceIsTrueClaim, LocalVerdictIsOne};
+ghost use Rattle.conditions.specs.ClaimLaws.{RefutedIsRefutedInTheWhole, TrueLocalClaimDecides};
+ghost use Rattle.conditions.specs.ClaimLaws.{TrueWeakClaimDecides, WeakEvidenceIsTrueClaim, WeakVerdictIsOne};
 ghost use Rattle.conditions.specs.Laws.{BothAreWeakest, ConditionsAreWeaker, SelectionsStayLinearizable};
 ghost use Rattle.conditions.specs.Laws.{StaysLocallyMinimal, StaysWeaklyMinimal, ViolationsAreOfTheWhole};
 

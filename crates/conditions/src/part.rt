@@ -22,8 +22,10 @@ pub(crate) fn part_of(
     places: Vec<OpId>,
 ) -> Result<Part, AllocError>
     requires few_initial { vec_len initial ≤ MAX_INITIAL }
-    requires selected { (values : ℕ → Bool) × (empties : ℕ → Bool) × AreSelected (contents_of history.now) values empties initial.items places.items }
-    ensures { IfOk result (λ part. (values empties : ℕ → Bool) → AreSelected (contents_of history.now) values empties initial.items places.items
+    requires selected { (values : ℕ → Bool) × (empties : ℕ → Bool)
+        × AreSelected (contents_of history.now) values empties initial.items places.items }
+    ensures { IfOk result (λ part. (values empties : ℕ → Bool)
+        → AreSelected (contents_of history.now) values empties initial.items places.items
         → IsPart history.now (select values empties (contents_of history.now)) part) }
 {
     // Shows the proof that the history is complete and within the limits, as the contract of this call says.

@@ -12,7 +12,8 @@ use std::alloc::{AllocError, Global};
 /// Writes the outcome, or the fault that memory ran out for its text.
 pub(crate) fn tell(alloc: Global, outcome: &Outcome, answer: &mut [u8], needed: &mut usize) -> u8
     requires { NamesPlaces outcome.now }
-    ensures { TellsAnswer (answer_of outcome.now) answer.old answer.new needed.new result ⊎ TellsAnswer memory_fault answer.old answer.new needed.new result }
+    ensures { TellsAnswer (answer_of outcome.now) answer.old answer.new needed.new result
+        ⊎ TellsAnswer memory_fault answer.old answer.new needed.new result }
 {
     tell_text(
         text_of_outcome(alloc, outcome),
@@ -29,7 +30,8 @@ pub(crate) fn tell_bad_what(
     answer: &mut [u8],
     needed: &mut usize,
 ) -> u8
-    ensures { Tells (bad_what_line place) 2 answer.old answer.new needed.new result ⊎ TellsAnswer memory_fault answer.old answer.new needed.new result }
+    ensures { Tells (bad_what_line place) 2 answer.old answer.new needed.new result
+        ⊎ TellsAnswer memory_fault answer.old answer.new needed.new result }
 {
     tell_text(bad_what(alloc, place), 2, answer, needed)
 }
@@ -53,7 +55,8 @@ fn tell_text(
     needed: &mut usize,
 ) -> u8
     ensures { (wanted : List ℕ) → IfOk text (λ found. found.items ≡ wanted)
-        → Tells wanted status answer.old answer.new needed.new result ⊎ TellsAnswer memory_fault answer.old answer.new needed.new result }
+        → Tells wanted status answer.old answer.new needed.new result
+        ⊎ TellsAnswer memory_fault answer.old answer.new needed.new result }
 {
     match text {
         Ok(text) => {

@@ -12,6 +12,8 @@ ghost use Rattle.commands.specs.Judging.{AnswersOrNoMemory, JudgesHistory, from_
 /// Law: events and their text have the same answer. A reply about the events and a reply of `check` about their text
 /// are the same, or one of them is out of memory. The law is the contract; the body is empty.
 pub fn events_and_their_text_agree()
-    ensures { (events : List Event) (a b : Reply) → HasHistoryText events → AnswersOrNoMemory (JudgesHistory linearizability) (from_none events) a
-        → AnswersOrNoMemory (AnswersOf (check linearizability)) (input_of (history_text events)) b → SameOrNoMemory a b }
+    ensures { (events : List Event) (a b : Reply) → HasHistoryText events
+        → AnswersOrNoMemory (JudgesHistory linearizability) (from_none events) a
+        → AnswersOrNoMemory (AnswersOf (check linearizability)) (input_of (history_text events)) b
+        → SameOrNoMemory a b }
 {}

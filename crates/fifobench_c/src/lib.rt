@@ -53,7 +53,8 @@ pub extern "C" fn fifobench_check(
     answer: &mut [u8],
     needed: &mut usize,
 ) -> u8
-    ensures { TellsOneOf (AnswersOrNoMemory (AnswersOf (check linearizability)) (input_of text.now)) answer.old answer.new needed.new result }
+    ensures { TellsOneOf (AnswersOrNoMemory (AnswersOf (check linearizability)) (input_of text.now))
+        answer.old answer.new needed.new result }
 {
     fifobench_check_under(alloc, text, LINEARIZABILITY, answer, needed)
 }
@@ -66,7 +67,8 @@ pub extern "C" fn fifobench_shrink(
     answer: &mut [u8],
     needed: &mut usize,
 ) -> u8
-    ensures { TellsOneOf (AnswersOrNoMemory (AnswersOf (shrink linearizability)) (input_of text.now)) answer.old answer.new needed.new result }
+    ensures { TellsOneOf (AnswersOrNoMemory (AnswersOf (shrink linearizability)) (input_of text.now))
+        answer.old answer.new needed.new result }
 {
     fifobench_shrink_under(alloc, text, LINEARIZABILITY, answer, needed)
 }
@@ -79,7 +81,8 @@ pub extern "C" fn fifobench_verify(
     answer: &mut [u8],
     needed: &mut usize,
 ) -> u8
-    ensures { TellsOneOf (AnswersOrNoMemory (AnswersOf (verify linearizability)) (input_of text.now)) answer.old answer.new needed.new result }
+    ensures { TellsOneOf (AnswersOrNoMemory (AnswersOf (verify linearizability)) (input_of text.now))
+        answer.old answer.new needed.new result }
 {
     fifobench_verify_under(alloc, text, LINEARIZABILITY, answer, needed)
 }
@@ -95,7 +98,8 @@ pub extern "C" fn fifobench_check_under(
     answer: &mut [u8],
     needed: &mut usize,
 ) -> u8
-    ensures { TellsOneOf (AnswersOrNoMemory (AnswersOf (check (condition_of condition))) (input_of text.now)) answer.old answer.new needed.new result }
+    ensures { TellsOneOf (AnswersOrNoMemory (AnswersOf (check (condition_of condition))) (input_of text.now))
+        answer.old answer.new needed.new result }
 {
     tell(
         alloc,
@@ -114,7 +118,8 @@ pub extern "C" fn fifobench_shrink_under(
     answer: &mut [u8],
     needed: &mut usize,
 ) -> u8
-    ensures { TellsOneOf (AnswersOrNoMemory (AnswersOf (shrink (condition_of condition))) (input_of text.now)) answer.old answer.new needed.new result }
+    ensures { TellsOneOf (AnswersOrNoMemory (AnswersOf (shrink (condition_of condition))) (input_of text.now))
+        answer.old answer.new needed.new result }
 {
     tell(
         alloc,
@@ -133,7 +138,8 @@ pub extern "C" fn fifobench_verify_under(
     answer: &mut [u8],
     needed: &mut usize,
 ) -> u8
-    ensures { TellsOneOf (AnswersOrNoMemory (AnswersOf (verify (condition_of condition))) (input_of text.now)) answer.old answer.new needed.new result }
+    ensures { TellsOneOf (AnswersOrNoMemory (AnswersOf (verify (condition_of condition))) (input_of text.now))
+        answer.old answer.new needed.new result }
 {
     tell(
         alloc,
@@ -161,7 +167,8 @@ pub extern "C" fn fifobench_draw(
     answer: &mut [u8],
     needed: &mut usize,
 ) -> u8
-    ensures { TellsOneOf (AnswersOrNoMemory (AnswersOf (draw (drawing_as Svg))) (input_of text.now)) answer.old answer.new needed.new result }
+    ensures { TellsOneOf (AnswersOrNoMemory (AnswersOf (draw (drawing_as Svg))) (input_of text.now))
+        answer.old answer.new needed.new result }
 {
     let options = DrawOptions::new(PictureForm::Svg);
     tell(alloc, &draw_text(alloc, text, options), answer, needed)
@@ -175,7 +182,8 @@ pub extern "C" fn fifobench_draw_text(
     answer: &mut [u8],
     needed: &mut usize,
 ) -> u8
-    ensures { TellsOneOf (AnswersOrNoMemory (AnswersOf (draw (drawing_as Terminal))) (input_of text.now)) answer.old answer.new needed.new result }
+    ensures { TellsOneOf (AnswersOrNoMemory (AnswersOf (draw (drawing_as Terminal))) (input_of text.now))
+        answer.old answer.new needed.new result }
 {
     let options = DrawOptions::new(PictureForm::Terminal);
     tell(alloc, &draw_text(alloc, text, options), answer, needed)
@@ -189,7 +197,8 @@ pub extern "C" fn fifobench_complete(
     answer: &mut [u8],
     needed: &mut usize,
 ) -> u8
-    ensures { TellsOneOf (AnswersOrNoMemory (AnswersOf (complete false)) (input_of text.now)) answer.old answer.new needed.new result }
+    ensures { TellsOneOf (AnswersOrNoMemory (AnswersOf (complete false)) (input_of text.now))
+        answer.old answer.new needed.new result }
 {
     tell(alloc, &complete_text(alloc, text, false), answer, needed)
 }
@@ -202,7 +211,8 @@ pub extern "C" fn fifobench_stats(
     answer: &mut [u8],
     needed: &mut usize,
 ) -> u8
-    ensures { TellsOneOf (AnswersOrNoMemory (AnswersOf (stats false)) (input_of text.now)) answer.old answer.new needed.new result }
+    ensures { TellsOneOf (AnswersOrNoMemory (AnswersOf (stats false)) (input_of text.now))
+        answer.old answer.new needed.new result }
 {
     tell(alloc, &stats_text(alloc, text), answer, needed)
 }
@@ -220,11 +230,14 @@ pub extern "C" fn fifobench_check_events(
 ) -> u8
     // Events of known kinds are judged as `check` judges a history of a queue that is empty at first.
     ensures judged { (list : List Event) → AreEvents events.now list → length list ≤ MAX_EVENTS
-        → TellsOneOf (AnswersOrNoMemory (JudgesHistory linearizability) (from_none list)) answer.old answer.new needed.new result }
+        → TellsOneOf (AnswersOrNoMemory (JudgesHistory linearizability) (from_none list))
+            answer.old answer.new needed.new result }
     ensures unknown { (place : ℕ) → length events.now ≤ MAX_EVENTS → IsFirstUnknown events.now place
-        → Tells (bad_what_line place) 2 answer.old answer.new needed.new result ⊎ TellsAnswer memory_fault answer.old answer.new needed.new result }
+        → Tells (bad_what_line place) 2 answer.old answer.new needed.new result
+        ⊎ TellsAnswer memory_fault answer.old answer.new needed.new result }
     ensures many { MAX_EVENTS < length events.now
-        → TellsAnswer refused_limit answer.old answer.new needed.new result ⊎ TellsAnswer memory_fault answer.old answer.new needed.new result }
+        → TellsAnswer refused_limit answer.old answer.new needed.new result
+        ⊎ TellsAnswer memory_fault answer.old answer.new needed.new result }
 {
     if events.len() > MAX_EVENTS {
         return tell(alloc, &Err(Fault::Limit), answer, needed);

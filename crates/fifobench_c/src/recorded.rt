@@ -75,7 +75,8 @@ fn what_in(kind: u32, value: u64) -> Option<What>
 /// unknown kind.
 pub(crate) fn gathered(alloc: Global, structs: &[RecordedEvent]) -> Result<HistoryBuilder, usize>
     requires { length structs.now ≤ MAX_EVENTS }
-    ensures events { IfOk result (λ builder. (events : List Event) × AreEvents structs.now events × HasGathered [] events builder) }
+    ensures events { IfOk result
+        (λ builder. (events : List Event) × AreEvents structs.now events × HasGathered [] events builder) }
     ensures unknown { IfErr result (IsFirstUnknown structs.now) }
 {
     let mut builder = HistoryBuilder::new(alloc, Vec::new(alloc));

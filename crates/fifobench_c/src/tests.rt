@@ -14,7 +14,8 @@ const OVERTAKEN: &str =
 const ITS_VERDICT: &str = "NO VOrd\n0 1 0 enq 7\n2 3 0 enq 9\n4 5 0 deq 9\n";
 
 const ONE_MORE: &str =
-    "fifo-history 1\n0 0 call-enq 7\n1 0 ret-enq\n2 0 call-enq 9\n3 0 ret-enq\n4 0 call-deq\n5 0 ret-deq 9\n6 1 call-enq 8\n7 1 ret-not\nend 8\n";
+    "fifo-history 1\n0 0 call-enq 7\n1 0 ret-enq\n2 0 call-enq 9\n3 0 ret-enq\n4 0 call-deq\n5 0 ret-deq 9\n\
+    6 1 call-enq 8\n7 1 ret-not\nend 8\n";
 
 const SHRUNK: &str =
     "fifo-history 1\n0 0 call-enq 7\n1 0 ret-enq\n2 0 call-enq 9\n3 0 ret-enq\n4 0 call-deq\n5 0 ret-deq 9\nend 6\n\
@@ -96,7 +97,8 @@ const EACH_ORDER: &str = "YES\n0 1 0 enq 7\n2 3 1 enq 9\n4 5 2 deq 9\n";
 const WITNESS: &str = "NO VWit\n6 7 2 empty\n0 1 0 enq 7\n";
 
 const ITS_WITNESS: &str =
-    "fifo-history 1\n0 0 call-enq 7\n1 0 ret-enq\n6 2 call-deq\n7 2 ret-empty\nend 4\nNO VWit\n6 7 2 empty\n0 1 0 enq 7\n";
+    "fifo-history 1\n0 0 call-enq 7\n1 0 ret-enq\n6 2 call-deq\n7 2 ret-empty\nend 4\n\
+    NO VWit\n6 7 2 empty\n0 1 0 enq 7\n";
 
 const OVERTAKES: &str = "NO VOrd\n0 1 0 enq 7\n2 3 1 enq 9\n4 5 2 deq 9\n";
 

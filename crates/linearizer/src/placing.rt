@@ -2,7 +2,8 @@ ghost use Rattle.std.specs.Prelude.{◌≡◌, ℕ, [], IfOk, List, OnOk, length
 ghost use Rattle.history_merge.specs.Initial.{Contents};
 ghost use Rattle.value_match.specs.declared.life.Life.{Life};
 ghost use Rattle.linearizer.specs.Inner.Placement.{IsOrderOf, NeverFall, ordered_lives, place_of};
-ghost use Rattle.linearizer.specs.Inner.Merging.{IsDequeueFrom, IsEnqueueFrom, IsNoopFrom, IsMerge, IsMergedUpTo, IsValueFrom, NoneBelow};
+ghost use Rattle.linearizer.specs.Inner.Merging.{IsDequeueFrom, IsEnqueueFrom, IsNoopFrom};
+ghost use Rattle.linearizer.specs.Inner.Merging.{IsMerge, IsMergedUpTo, IsValueFrom, NoneBelow};
 
 use crate::noops::Noops;
 use crate::position::Position;
@@ -138,7 +139,8 @@ fn place_noops(
     before: Option<Position>,
 ) -> Result<(), AllocError>
     requires { NeverFall noops.now }
-    ensures adds { OnOk result ((history : Contents) (lives : List Life) (i j left : ℕ) → NoneBelow (IsValueFrom lives i j) before
+    ensures adds { OnOk result
+        ((history : Contents) (lives : List Life) (i j left : ℕ) → NoneBelow (IsValueFrom lives i j) before
         → IsMergedUpTo history lives noops.now i j left count.old places.old.items
         → IsMergedUpTo history lives noops.now i j left count.new places.new.items) }
     ensures up_to { OnOk result (NoneBelow (IsNoopFrom noops.now count.new) before) }

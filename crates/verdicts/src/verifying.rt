@@ -70,7 +70,8 @@ pub enum Claimed {
 /// assert!(rt; verify(alloc, &history, &claimed)?);
 /// ```
 pub fn verify(alloc: Global, history: &History, claimed: &Claimed) -> Result<bool, AllocError>
-    ensures exact { IfOk result (λ valid. IsTrue valid ↔ IsTrueClaim history.now.initial (operations_of history.now.events) claimed.now) }
+    ensures exact { IfOk result
+        (λ valid. IsTrue valid ↔ IsTrueClaim history.now.initial (operations_of history.now.events) claimed.now) }
     ensures no { (kind : ViolationKind) (lines : List ClaimLine) → claimed.now ≡ Claimed.No kind lines → IsOk result }
 {
     match claimed {
