@@ -49,7 +49,7 @@ fn is_true_of(
         (selection_of emptiness producer (contents_of history.now)).operations }
     ensures { IfOk result (λ valid. (emptiness : Emptiness)
         → ArePlacesOf (operations_of history.now.events) places.now
-            (selection_of emptiness producer (contents_of history.now)).operations
+        (selection_of emptiness producer (contents_of history.now)).operations
         → IsTrue valid ↔ IsTrueClaim (selection_of emptiness producer (contents_of history.now)).initial
         (selection_of emptiness producer (contents_of history.now)).operations claimed.now) }
 {
@@ -69,7 +69,7 @@ fn is_order_of(
         (selection_of emptiness producer (contents_of history.now)).operations }
     ensures { IfOk result (λ valid. (emptiness : Emptiness)
         → ArePlacesOf (operations_of history.now.events) places.now
-            (selection_of emptiness producer (contents_of history.now)).operations
+        (selection_of emptiness producer (contents_of history.now)).operations
         → IsTrue valid ↔ IsLegalOrder (selection_of emptiness producer (contents_of history.now)).initial
         (selection_of emptiness producer (contents_of history.now)).operations lines.now) }
 {

@@ -134,7 +134,7 @@ fn decide_selection<S: WitnessSearch>(
         (selection_of emptiness producer (contents_of history.now)).operations }
     ensures { IfOk result (λ verdict. (emptiness : Emptiness)
         → ArePlacesOf (operations_of history.now.events) places.now
-            (selection_of emptiness producer (contents_of history.now)).operations
+        (selection_of emptiness producer (contents_of history.now)).operations
         → IsDecidedOf (contents_of history.now) (selection_of emptiness producer (contents_of history.now)) verdict) }
 {
     let part = part_at(alloc, history, producer, places)?;

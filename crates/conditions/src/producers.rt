@@ -40,7 +40,7 @@ impl Producers {
         ensures within { IfSome result (λ place. place < length self.now.by_value.items) }
         ensures found { (whole : Contents) → AreProducers whole self.now.by_value.items
             → MatchOption result (None ≡ producer_of whole value)
-                (λ place. (d : Produced) → (slice_index_or self.now.by_value.items place d).value ≡ value) }
+            (λ place. (d : Produced) → (slice_index_or self.now.by_value.items place d).value ≡ value) }
     {
         let by_value = self.by_value.as_slice();
         if guess < by_value.len() && stands_at(by_value, guess, value) {

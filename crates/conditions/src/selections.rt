@@ -66,7 +66,7 @@ pub(crate) fn part_at(
         (selection_of emptiness producer (contents_of history.now)).operations }
     ensures { IfOk result (λ part. (emptiness : Emptiness)
         → ArePlacesOf (operations_of history.now.events) places.now
-            (selection_of emptiness producer (contents_of history.now)).operations
+        (selection_of emptiness producer (contents_of history.now)).operations
         → IsPart history.now (selection_of emptiness producer (contents_of history.now)) part) }
 {
     let initial = initial_of(alloc, history.initial(), producer)?;

@@ -109,7 +109,7 @@ pub(crate) fn places_selected(
     requires { length operations.now ≤ MAX_EVENTS }
     ensures { IfOk result (λ places. (whole : Contents) → AreProducers whole producers.now.by_value.items
         → ArePlacesOf operations.now places.items
-            (filter (λ o. goes_to producer (share_of whole emptiness o.kind)) operations.now)) }
+        (filter (λ o. goes_to producer (share_of whole emptiness o.kind)) operations.now)) }
 {
     let mut guesses = [0; GUESSES];
     let mut places = Vec::new(alloc);

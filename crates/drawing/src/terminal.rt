@@ -314,7 +314,7 @@ fn thread_digits(alloc: Global, narrow: bool, tens: bool, thread: u8) -> Result<
 fn place_lane_names(line: &mut Vec<u8>, sheet: &Sheet<'_>, tens: bool) -> Added
     ensures { OnOk result (line.new.items ≡ with_words line.old.items
         (lane_names sheet.now.columns (scene_on sheet.now.scene.now).threads tens
-            (scene_on sheet.now.scene.now).threads)) }
+        (scene_on sheet.now.scene.now).threads)) }
 {
     let threads = sheet.scene.threads.as_slice();
     let narrow = sheet.columns.lane == 1;

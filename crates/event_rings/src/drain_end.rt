@@ -30,8 +30,11 @@ impl Model for DrainEnd {
 
     ghost Value = { DrainView };
 
-    ghost view = { λ d. record { ring = ring_of_consumer d.consumer; thread = d.thread;
-        received = received d.consumer } };
+    ghost view = { λ d. record {
+      ring = ring_of_consumer d.consumer;
+      thread = d.thread;
+      received = received d.consumer;
+    } };
 }
 
 /// All events that were sent through a closed ring and not drained before, oldest first.

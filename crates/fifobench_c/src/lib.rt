@@ -231,7 +231,7 @@ pub extern "C" fn fifobench_check_events(
     // Events of known kinds are judged as `check` judges a history of a queue that is empty at first.
     ensures judged { (list : List Event) → AreEvents events.now list → length list ≤ MAX_EVENTS
         → TellsOneOf (AnswersOrNoMemory (JudgesHistory linearizability) (from_none list))
-            answer.old answer.new needed.new result }
+        answer.old answer.new needed.new result }
     ensures unknown { (place : ℕ) → length events.now ≤ MAX_EVENTS → IsFirstUnknown events.now place
         → Tells (bad_what_line place) 2 answer.old answer.new needed.new result
         ⊎ TellsAnswer memory_fault answer.old answer.new needed.new result }

@@ -110,7 +110,7 @@ impl HistoryBuilder {
     pub fn finish(self) -> Result<History, HistoryFault>
         ensures outcome { (initial : List ℕ) (events : List Event) → HasGathered initial events self
             → MatchResult result (λ whole. (whole.initial ≡ initial) × (whole.events ≡ events))
-                (IsFirstFault initial events) }
+            (IsFirstFault initial events) }
         ensures complete { IfOk result (λ whole. IsCompleteFrom whole.initial whole.events) }
         ensures refused { (initial : List ℕ) (events : List Event) → HasGathered initial events self
             → IfErr result (λ fault. IsCompleteFrom initial events → fault ≡ HistoryFault.Memory) }

@@ -136,7 +136,7 @@ impl Gathering {
         requires { (initial : List ℕ) × (events : List Event) × HasGathered initial events self }
         ensures outcome { (initial : List ℕ) (events : List Event) → HasGathered initial events self
             → MatchResult result (λ whole. (whole.initial ≡ initial) × (whole.events ≡ events))
-                (IsFirstFault initial events) }
+            (IsFirstFault initial events) }
         ensures kept { IsSome self.fault → IsErr result }
     {
         let Gathering {

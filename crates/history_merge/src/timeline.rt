@@ -30,8 +30,10 @@ impl Model for Timeline {
 
     ghost Value = { Contents };
 
-    ghost view = { λ t. record { initial = t.initial.items;
-        operations = operations_on (length t.initial.items) t.all.items } };
+    ghost view = { λ t. record {
+      initial = t.initial.items;
+      operations = operations_on (length t.initial.items) t.all.items;
+    } };
 
     ghost invariant = { λ t. IsTimeline t.initial.items t.all.items };
 }

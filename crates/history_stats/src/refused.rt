@@ -42,7 +42,7 @@ pub(crate) fn refused_at(
     requires few { length operations.now ≤ MAX_EVENTS }
     ensures { IfOk result (λ least. MatchOption least (NoRefusal operations.now)
         (IsRefusedAt operations.now
-            (λ gap. left_count gap operations.now (initial.now ++ values_called_before gap operations.now)))) }
+        (λ gap. left_count gap operations.now (initial.now ++ values_called_before gap operations.now)))) }
 {
     let gone = first_gone(alloc, operations)?;
     let mut arrivals = Vec::new(alloc);

@@ -118,7 +118,7 @@ fn put_with_last<W: TextSink>(
 ) -> Result<(), WriteFault>
     ensures { PutsText W.contents W.has_refused W.transition kept.old kept.new
         (lines_text lines.now.initial.now lines.now.operations.now (first.now ++ maybe_place last))
-            writer.old writer.new result }
+        writer.old writer.new result }
 {
     put_each(lines, first, kept, writer)?;
     put_each(lines, last.as_slice(), kept, writer)
@@ -132,7 +132,7 @@ fn put_cover<W: TextSink>(
 ) -> Result<(), WriteFault>
     ensures { PutsText W.contents W.has_refused W.transition kept.old kept.new
         (flat_map (λ step. lines_text lines.now.initial.now lines.now.operations.now (places_of_step step)) steps.now)
-            writer.old writer.new result }
+        writer.old writer.new result }
 {
     for step in steps {
         put_with_last(
@@ -167,7 +167,7 @@ fn put_violation<W: TextSink>(
 ) -> Result<(), WriteFault>
     ensures { PutsText W.contents W.has_refused W.transition kept.old kept.new
         (lines_text lines.now.initial.now lines.now.operations.now (violation_places violation.now))
-            writer.old writer.new result }
+        writer.old writer.new result }
 {
     match violation {
         Violation::Fresh { deq, enq } => {
@@ -259,7 +259,7 @@ pub fn write_verdict<W: TextSink>(
 
     ensures { Writes W.contents W.has_refused W.transition
         (verdict_text (claim_of history.now.initial (operations_of history.now.events) verdict.now))
-            writer.old writer.new result }
+        writer.old writer.new result }
 {
     let mut kept = WriteBuffer::new();
     put_verdict(
@@ -286,7 +286,7 @@ pub fn write_shown<W: TextSink>(
     ensures { Writes W.contents W.has_refused W.transition
         (text_of (said_in version history.now)
         ++ verdict_text (claim_of history.now.initial (operations_of history.now.events) verdict.now))
-            writer.old writer.new result }
+        writer.old writer.new result }
 {
     write_history(version, history, writer)?;
     write_verdict(history, verdict, writer)

@@ -129,7 +129,7 @@ impl Thread {
     pub(crate) fn push(&mut self, capacity: usize) -> Result<(), StepRefused>
         ensures refused { let full = nat_le capacity (length self.old.ring) in result_err result
             ≡ find (seen self.old (when_pushing full (is_out_of_memory result)))
-                (Closed ∷ NothingHeld ∷ RingFull ∷ Memory ∷ []) }
+            (Closed ∷ NothingHeld ∷ RingFull ∷ Memory ∷ []) }
         ensures ok { OnOk result
             (self.new ≡ record self.old { held = None; ring = with_last self.old.ring self.old.held }) }
         ensures err { OnErr result (self.new ≡ self.old) }

@@ -136,7 +136,7 @@ fn longer_place(values: &Values, so_far: Option<usize>, place: usize) -> usize
     ensures within { result < length values.now }
     ensures longer { (d : MatchedValue) → MatchOption so_far (result ≡ place)
         (λ p. IsLongerOf (slice_index_or values.now p d) (slice_index_or values.now place d)
-            (slice_index_or values.now result d)) }
+        (slice_index_or values.now result d)) }
 {
     match so_far {
         Some(longest) if stays_at_least(values, longest, place) => longest,

@@ -60,8 +60,8 @@ impl Selection {
     ) -> Result<BTreeSet<u64>, AllocError>
         ensures { IfOk result (λ tickets. (t : ℕ) → contains nat_cmp tickets t
             ≡ holds_ticket
-                (filter (selects (contains nat_cmp self.now.values) (contains nat_cmp self.now.calls))
-                    operations.now) t) }
+            (filter (selects (contains nat_cmp self.now.values) (contains nat_cmp self.now.calls))
+            operations.now) t) }
     {
         let mut tickets = BTreeSet::new(alloc);
         for operation in operations.iter() {

@@ -53,7 +53,7 @@ impl<R: TextSource> TextReader<R> {
         ensures ok { IfOk result (TakesEventLine is_pending self.old.left self.new.left count) }
         ensures fault { IfErr result (FaultAtFront (λ ending fault front.
             whole_line_at_front (wanted.event_line_in is_pending (self.old.lines + 1) count)
-                (self.old.lines + 1) ending front ≡ Err fault) self.old.left) }
+            (self.old.lines + 1) ending front ≡ Err fault) self.old.left) }
         ensures of_input { IfErr result IsOfInput }
         ensures lines { self.new.lines ≡ self.old.lines + 1 }
     {
