@@ -68,7 +68,7 @@ pub struct Operation {
     pub ret: u64,
     /// The number of the thread.
     pub thread: u8,
-    /// What was called, and how it returned.
+    /// The call and its result.
     pub kind: OpKind,
 }
 

@@ -1,4 +1,4 @@
-//! How full the queue may have been during failed enqueues.
+//! The number of values that the queue may have held during failed enqueues.
 ghost use Rattle.std.specs.Prelude.{◌≡◌, ◌+◌, ◌-◌, ◌<◌, ◌≤◌, ◌++◌, ◌∷◌, ◌^◌, [], ℕ, All, IfOk};
 ghost use Rattle.std.specs.Prelude.{List, MatchOption, OnOk, count_by, false, filter_map};
 ghost use Rattle.std.specs.Prelude.{length, nat_lt, not, slice_index_or, take, true, vec_len};

@@ -8,7 +8,7 @@ use text_lines::{ReadFailed, TextSource};
 /// The maximum number of bytes that one read asks a source for.
 pub(crate) const BUFFER_LEN: usize = 4096;
 
-/// Whether the end of a source was seen. It isn't asked again then.
+/// The state of a source: its end was seen or not. After the end it isn't asked again.
 #[derive(Clone, Copy)]
 pub(crate) enum SourceEnd {
     NotSeen,

@@ -64,7 +64,7 @@ module _ (lives : List Life) (i : ℕ) (life : Life) (at : slice_get lives i ≡
   dequeues_more : dequeues_of (take (i + 1) lives) ≡ dequeues_of (take i lives) ++ cons_option (dequeue_of life) []
   dequeues_more = ap dequeues_of (take_next lives i life at) ∙ filter_map-append dequeue_of (take i lives) (life ∷ [])
 
--- what is known when a value has its turn: its origin, the position of its dequeue, and the gap of its enqueue
+-- the facts at a value's turn: its origin, the position of its dequeue, and the gap of its enqueue
 pub record IsTurn (history : Contents) (lives : List Life) (i : ℕ) (m : MatchedValue) (gap : ℕ) : Type 0 where
   pub few : length history.initial ≤ MAX_INITIAL
   pub order : IsValueOrder (on (timeline_of history)) lives

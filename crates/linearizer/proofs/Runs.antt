@@ -7,7 +7,7 @@ use Rattle.linearizer.proofs.Common.{slice_get, Some, StandsBefore, subst, suc, 
 use Rattle.linearizer.proofs.Common.{◌≡◌, ◌≤◌}
 use Rattle.history_merge.proofs.Lists.{with_one_more, AllPairs-tail}
 
--- of two positions at most one stands before the other
+-- at most one of two positions is before the other
 pub not_both : (p r : Position) → StandsBefore p r → StandsBefore r p → ⊥
 not_both p r before after = grind arith
 
