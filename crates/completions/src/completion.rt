@@ -207,7 +207,7 @@ fn complete_history(
 ///
 /// `History` has the first fault as [`history_merge::history_from`] names it, unless that is `Pending`. `Limit` comes
 /// if the completion has more than `MAX_EVENTS` events or a ticket above `MAX_TICKET`. Takes O(n log n) time for n
-/// events and initial values, and memory in proportion beside that of the events, which are completed in place.
+/// events and initial values, and memory in proportion, besides that of the events, which are completed in place.
 pub fn complete(
     alloc: Global,
     initial: &[u64],

@@ -110,7 +110,7 @@ fn add_one(
 }
 
 /// Returns the minimum, over the failed enqueues, of the maximum number present at one gap of the call: `first` are
-/// present from the beginning, one comes at each ticket of `arrivals`, and one goes at each of `departures`.
+/// present from the beginning, one comes at each ticket of `arrivals`, and one leaves at each of `departures`.
 fn refused_among(
     alloc: Global,
     first: usize,

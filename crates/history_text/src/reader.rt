@@ -506,7 +506,7 @@ pub fn is_at_end<R: TextSource>(reader: &mut TextReader<R>) -> Result<bool, Text
 /// Returns its version, and a builder that holds its initial values and events.
 ///
 /// [`HistoryBuilder::finish`] returns whether they are a complete history. Takes time linear in the bytes read,
-/// beside that of the builder, and memory for the initial values and the builder. `Memory` comes only at a line that,
+/// besides that of the builder, and memory for the initial values and the builder. `Memory` comes only at a line that,
 /// like those before it, is whole and without fault.
 ///
 /// The text of one operation:

@@ -80,7 +80,7 @@ impl<'a> Noops<'a> {
         }
     }
 
-    /// Returns whether the no-op at index `at` stands after a position; false if none is given. Mostly the gaps
+    /// Returns whether the no-op at index `at` comes after a position; false if none is given. Mostly the gaps
     /// decide.
     #[inline(always)]
     pub(crate) fn is_after(&self, at: usize, position: Option<Position>) -> bool
@@ -99,7 +99,7 @@ impl<'a> Noops<'a> {
 }
 
 /// Returns the empty dequeues, at the gaps after these tickets, and the failed enqueues, in rising order of position.
-/// Those of one gap stand in the order of their calls, which is that of their places.
+/// Those of one gap are in the order of their calls, which is that of their places.
 pub(crate) fn noops_of<'a>(
     alloc: Global,
     matching: &'a Matching,

@@ -41,7 +41,7 @@ pub(crate) struct Merged {
     pub(crate) noops: usize,
 }
 
-/// Adds the enqueues in the order of the values, each after the other operations that stand before it.
+/// Adds the enqueues in the order of the values, each after the other operations that come before it.
 fn place_enqueues(
     places: &mut Vec<OpId>,
     matching: &Matching,
@@ -83,8 +83,8 @@ fn place_of(source: Source) -> Option<OpId>
     }
 }
 
-/// Adds the next dequeues in the order of the values, each after the no-ops that stand before it. Stops at the first
-/// dequeue that stands after `before`, if that is given.
+/// Adds the next dequeues in the order of the values, each after the no-ops that come before it. Stops at the first
+/// dequeue that comes after `before`, if that is given.
 #[inline(always)]
 fn place_dequeues(
     places: &mut Vec<OpId>,
@@ -130,7 +130,7 @@ fn place_dequeues(
     Ok(())
 }
 
-/// Adds the next no-ops. Stops at the first that stands after `before`, if that is given.
+/// Adds the next no-ops. Stops at the first that comes after `before`, if that is given.
 #[inline(always)]
 fn place_noops(
     places: &mut Vec<OpId>,
