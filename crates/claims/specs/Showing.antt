@@ -1,4 +1,4 @@
--- When lines show a violation of a history. A line is an operation, or an initial value, which counts as enqueued
+-- Lines that show a violation of a history. A line is an operation, or an initial value, which counts as enqueued
 -- before all else.
 use Rattle.std.specs.Prelude.{◌≡◌, ◌<◌, ◌⊎◌, ⊤, ℕ, List, [], ◌∷◌, Contains, Some, slice_get}
 use Rattle.history_merge.specs.declared.operation.Operation.{Operation}

@@ -34,13 +34,13 @@ pub enum ViolationKind {
 pub enum Claimed {
     /// All operations, in the order of a linearization.
     Yes(Lines),
-    /// The lines that show a violation of this kind, in this order, where the enqueue of an initial value is the line of
-    /// that value:
+    /// The lines that show a violation of this kind, in this order, where the enqueue of an initial value is the line
+    /// of that value:
     ///
     /// - `VFresh`: the dequeue, then the enqueue of its value, successful or failed, if the history has one;
     /// - `VRepeat`: the successful enqueue, then two dequeues of its value in the order of their returns;
     /// - `VOrd`: the enqueues of a and of b, the dequeue of b, then a dequeue of a if the history has one;
-    /// - `VWit`: the empty dequeue, then for each value of a cover its successful enqueue and its dequeue; the last value
-    ///   has no dequeue if the history has none.
+    /// - `VWit`: the empty dequeue, then for each value of a cover its successful enqueue and its dequeue; the last
+    ///   value has no dequeue if the history has none.
     No(ViolationKind, ClaimLines),
 }

@@ -16,7 +16,8 @@ use value_match::Violation;
 pub fn claim(alloc: Global, history: &History, verdict: &Verdict) -> Result<Claimed, AllocError>
     // The verdict's places are those of operations and initial values of this history.
     requires places { IsWithin history.now.initial (operations_of history.now.events) verdict.now }
-    ensures claim { IfOk result (λ claimed. claimed ≡ claim_of history.now.initial (operations_of history.now.events) verdict.now) }
+    ensures claim { IfOk result
+        (λ claimed. claimed ≡ claim_of history.now.initial (operations_of history.now.events) verdict.now) }
 {
     match verdict {
         Verdict::Yes(order) => {

@@ -1,8 +1,8 @@
 // All rings together: rounds of draining, and the seal.
 ghost use Rattle.std.specs.Prelude.{◌≡◌, ◌≢◌, ◌≤◌, ◌+◌, IfOk, IfErr, OnOk, OnErr, map, ℕ, true, false};
 ghost use Rattle.std.specs.List.{AllZip};
-ghost use Rattle.collector.specs.Ends.{AreInOrder, AreFresh, AreOwnUpTo, Drains, Fits, IsFirstForeign, StopsAt, count_received, rings_of};
-ghost use Rattle.collector.specs.Ends.{threads_of, threads_of_tokens};
+ghost use Rattle.collector.specs.Ends.{AreInOrder, AreFresh, AreOwnUpTo, Drains, Fits, IsFirstForeign};
+ghost use Rattle.collector.specs.Ends.{StopsAt, count_received, rings_of, threads_of, threads_of_tokens};
 ghost use Rattle.collector.specs.declared.rounds.CollectError.TheVariants.{Memory, Uncertified};
 ghost use Rattle.event_records.specs.declared.limits.TheConstants.{MAX_RING};
 
@@ -107,7 +107,8 @@ impl Collector {
         requires { AllZip Fits self.rings tokens.items }
         ensures sealed { IfOk result (λ lists. lists ≡ map (λ token. token.sent) tokens.items) }
         ensures certified { IfOk result (λ _. threads_of_tokens tokens.items ≡ threads_of self.rings) }
-        ensures uncertified { IfErr result (λ fault. (thread : ℕ) → fault ≡ Uncertified thread → IsFirstForeign tokens.items thread) }
+        ensures uncertified { IfErr result
+            (λ fault. (thread : ℕ) → fault ≡ Uncertified thread → IsFirstForeign tokens.items thread) }
         ensures memory { IfErr result (λ fault. fault ≡ Memory → AreOwnUpTo tokens.items) }
     {
         let Collector {
@@ -144,7 +145,7 @@ fn drain_each(rings: &mut Vec<Drained>, max: usize) -> Result<u64, AllocError>
 {
     let mut total = 0;
     for place in 0..rings.len() {
-        // Tells the proof that the place is that of a thread, below `MAX_THREADS`, so that the sum fits.
+        // Shows the proof that the place is that of a thread, below `MAX_THREADS`, so that the sum fits.
         let _thread = rings[place].thread();
         total += rings[place].drain(max)?;
     }
@@ -159,9 +160,11 @@ fn seal_each(
 ) -> Result<Vec<Vec<Event>>, CollectError>
     requires fits { AllZip Fits rings.items tokens.items }
     requires order { AreInOrder rings.items }
-    ensures sealed { IfOk result (λ lists. map (λ list. list.items) lists.items ≡ map (λ token. token.sent) tokens.items) }
+    ensures sealed { IfOk result
+        (λ lists. map (λ list. list.items) lists.items ≡ map (λ token. token.sent) tokens.items) }
     ensures certified { IfOk result (λ _. threads_of_tokens tokens.items ≡ threads_of rings.items) }
-    ensures uncertified { IfErr result (λ fault. (thread : ℕ) → fault ≡ Uncertified thread → IsFirstForeign tokens.items thread) }
+    ensures uncertified { IfErr result
+        (λ fault. (thread : ℕ) → fault ≡ Uncertified thread → IsFirstForeign tokens.items thread) }
     ensures memory { IfErr result (λ fault. fault ≡ Memory → AreOwnUpTo tokens.items) }
 {
     let mut lists = Vec::new(alloc);
@@ -184,7 +187,8 @@ fn seal_one(ring: Drained, token: CloseToken) -> Result<Vec<Event>, CollectError
     requires { Fits ring token }
     ensures sealed { IfOk result (λ events. events.items ≡ token.sent) }
     ensures certified { IfOk result (λ _. token.thread ≡ ring.thread) }
-    ensures uncertified { IfErr result (λ fault. (thread : ℕ) → fault ≡ Uncertified thread → (thread ≡ ring.thread) × (token.thread ≢ ring.thread)) }
+    ensures uncertified { IfErr result
+        (λ fault. (thread : ℕ) → fault ≡ Uncertified thread → (thread ≡ ring.thread) × (token.thread ≢ ring.thread)) }
     ensures memory { IfErr result (λ fault. fault ≡ Memory → token.thread ≡ ring.thread) }
 {
     let thread = ring.thread();

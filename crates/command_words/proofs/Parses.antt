@@ -1,4 +1,4 @@
--- What clap's contracts imply for the program.
+-- Consequences of clap's contracts for the program.
 use Rattle.std.proofs.Common.{◌≡◌, ◌∙◌, ap, subst, Bool, true, List, refl}
 use Rattle.clap.specs.Simple.{App, HasMatchesOf, is_simple, subcommand_of, subcommand_rows_of}
 use Rattle.clap.specs.Walk.{Text}

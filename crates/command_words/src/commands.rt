@@ -4,8 +4,10 @@ ghost use Rattle.clap.specs.Simple.{Shape, app_of, new_app, shape_of, with_subco
 ghost use Rattle.clap.specs.Walk.{rule_of};
 ghost use Rattle.clap.specs.declared.builder.command.Command.TheViews.{out-Command};
 ghost use Rattle.command_words.specs.Commands.{the_program, the_program_alone};
-ghost use Rattle.command_words.specs.Inner.Built.{with_condition, with_first_four, with_last_five, with_plan, with_sizes};
-ghost use Rattle.command_words.specs.Options.{flag_rule, number_rule, queue_rule, quiet_rule, the_complete, the_deciding, the_draw, the_judging, the_stats, the_stress, the_verify};
+ghost use Rattle.command_words.specs.Inner.Built.{with_condition, with_first_four};
+ghost use Rattle.command_words.specs.Inner.Built.{with_last_five, with_plan, with_sizes};
+ghost use Rattle.command_words.specs.Options.{flag_rule, number_rule, queue_rule, quiet_rule, the_complete};
+ghost use Rattle.command_words.specs.Options.{the_deciding, the_draw, the_judging, the_stats, the_stress, the_verify};
 
 use crate::help;
 use crate::options::MAX_AROUND;

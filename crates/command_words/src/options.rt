@@ -2,7 +2,8 @@
 ghost use Rattle.std.specs.Prelude.{◌≡◌, ◌≤◌, ℕ, Some, IfSome};
 ghost use Rattle.clap.specs.Matches.{found_of};
 ghost use Rattle.clap.specs.Walk.{rows_of};
-ghost use Rattle.command_words.specs.Options.{IsWithinRanges, around_in, condition_in, drawing_as, drawing_in, form_in, has_flag, is_given, is_quiet, linearizability};
+ghost use Rattle.command_words.specs.Options.{IsWithinRanges, around_in, condition_in, drawing_as, drawing_in};
+ghost use Rattle.command_words.specs.Options.{form_in, has_flag, is_given, is_quiet, linearizability};
 ghost use Rattle.command_words.specs.Options.{lists_overtakings, number_in, settings_in, settings_of, takes_cut};
 ghost use Rattle.command_words.specs.Inner.Options.{HasDistance, HasNumber, HasSettings};
 

@@ -2,7 +2,8 @@
 ghost use Rattle.std.specs.Prelude.{◌≡◌, IfOk, IfErr, OnOk, Some, map, []};
 ghost use Rattle.clap.specs.Kinds.{HasKind};
 ghost use Rattle.clap.specs.Simple.{subcommand_rows_of};
-ghost use Rattle.command_words.specs.Commands.{IsInRange, faults_in, is_quiet_in, is_quiet_subcommand, request_in, request_of, request_of_subcommand};
+ghost use Rattle.command_words.specs.Commands.{IsInRange, faults_in, is_quiet_in, is_quiet_subcommand};
+ghost use Rattle.command_words.specs.Commands.{request_in, request_of, request_of_subcommand};
 ghost use Rattle.command_words.specs.Inner.Commands.{IsAnswerable};
 
 use crate::commands::the_command;

@@ -1,7 +1,8 @@
 //! The answers to pending calls.
 ghost use Rattle.std.specs.Prelude.{◌≡◌, ◌++◌, List, [], IfOk, OnOk, filter, filter_map, true};
 ghost use Rattle.event_records.specs.declared.event.Event.{Event};
-ghost use Rattle.completions.specs.Completed.{answers_to, calls_dequeue, enqueue_answer, is_answered, paired, pending_calls, taken_values};
+ghost use Rattle.completions.specs.Completed.{answers_to, calls_dequeue, enqueue_answer};
+ghost use Rattle.completions.specs.Completed.{is_answered, paired, pending_calls, taken_values};
 ghost use Rattle.completions.specs.Inner.Walk.{AreGiven};
 
 use crate::given::is_given;
@@ -97,7 +98,8 @@ pub(crate) fn answers_to(
     taken: &[u64],
     calls: &[Event],
 ) -> Result<Vec<Answer>, AllocError>
-    ensures { IfOk result (λ answers. (events : List Event) → AreGiven events given.now → taken.now ≡ taken_values [] events
+    ensures { IfOk result
+        (λ answers. (events : List Event) → AreGiven events given.now → taken.now ≡ taken_values [] events
         → calls.now ≡ pending_calls events → answers.items ≡ answers_to values.now events) }
 {
     let left = left_values(alloc, values, taken, given)?;

@@ -1,12 +1,15 @@
 //! The completion of a history.
-ghost use Rattle.std.specs.Prelude.{◌≡◌, ◌≢◌, ℕ, ◌≤◌, ◌+◌, ◌++◌, List, All, IfErr, IfOk, OnOk, false, length, filter, not, take};
-ghost use Rattle.event_records.specs.declared.limits.TheConstants.{MAX_EVENTS, MAX_INITIAL, MAX_THREAD, MAX_THREADS, MAX_TICKET};
+ghost use Rattle.std.specs.Prelude.{◌≡◌, ◌≢◌, ℕ, ◌≤◌, ◌+◌, ◌++◌, List, All, IfErr};
+ghost use Rattle.std.specs.Prelude.{IfOk, OnOk, false, length, filter, not, take};
+ghost use Rattle.event_records.specs.declared.limits.TheConstants.{MAX_EVENTS, MAX_INITIAL, MAX_THREAD};
+ghost use Rattle.event_records.specs.declared.limits.TheConstants.{MAX_THREADS, MAX_TICKET};
 ghost use Rattle.history_merge.specs.Gathering.{HasGathered};
 ghost use Rattle.history_merge.specs.Initial.{IsCompleteFrom};
 ghost use Rattle.history_merge.specs.declared.fault.HistoryFault.TheVariants.{Pending};
 ghost use Rattle.completions.specs.declared.fault.CompletionFault.TheVariants.{History};
 ghost use Rattle.event_records.specs.declared.event.Event.{Event};
-ghost use Rattle.completions.specs.Completed.{completed, is_left_out, is_pending, next_ticket, pending_calls, returns_from};
+ghost use Rattle.completions.specs.Completed.{completed, is_left_out, is_pending};
+ghost use Rattle.completions.specs.Completed.{next_ticket, pending_calls, returns_from};
 ghost use Rattle.completions.specs.Faults.{IsBeyondLimits, IsCompletionFault, MayBePending};
 ghost use Rattle.completions.specs.Inner.Walk.{AreLast, HasWalked};
 ghost use Rattle.completions.specs.Pending.{IsDeciding, IsHistoryFrom};
@@ -106,7 +109,8 @@ fn copied(alloc: Global, values: &[u64]) -> Result<Vec<u64>, AllocError>
 
 /// Returns the fault of the events, unless it is that a call is pending.
 fn check_history(builder: HistoryBuilder) -> Result<(), CompletionFault>
-    ensures found { (initial : List ℕ) (events : List Event) → HasGathered initial events builder → OnOk result (MayBePending initial events) }
+    ensures found { (initial : List ℕ) (events : List Event) → HasGathered initial events builder
+        → OnOk result (MayBePending initial events) }
     ensures fault { (initial : List ℕ) (events : List Event) → HasGathered initial events builder
         → IfErr result (IsCompletionFault initial events) }
 {
@@ -203,7 +207,7 @@ fn complete_history(
 ///
 /// `History` has the first fault as [`history_merge::history_from`] names it, unless that is `Pending`. `Limit` comes
 /// if the completion has more than `MAX_EVENTS` events or a ticket above `MAX_TICKET`. Takes O(n log n) time for n
-/// events and initial values, and memory in proportion beside that of the events, which are completed in place.
+/// events and initial values, and memory in proportion, besides that of the events, which are completed in place.
 pub fn complete(
     alloc: Global,
     initial: &[u64],

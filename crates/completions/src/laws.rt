@@ -10,8 +10,11 @@ ghost use Rattle.completions.specs.Pending.{IsDeciding, IsHistoryFrom};
 /// Proves that the completion decides, unless it is beyond the limits of a history; that a complete history is
 /// unchanged; and that events are a history if they have no fault, or if the first is that a call is pending.
 pub fn the_completion_decides()
-    ensures deciding { (initial : List ℕ) (events : List Event) → length initial ≤ MAX_INITIAL → IsHistoryFrom initial events
+    ensures deciding { (initial : List ℕ) (events : List Event) → length initial ≤ MAX_INITIAL
+        → IsHistoryFrom initial events
         → ¬ (IsBeyondLimits initial events) → IsDeciding initial events (completed initial events) }
-    ensures complete { (initial : List ℕ) (events : List Event) → IsCompleteFrom initial events → completed initial events ≡ events }
-    ensures history { (initial : List ℕ) (events : List Event) → MayBePending initial events → IsHistoryFrom initial events }
+    ensures complete { (initial : List ℕ) (events : List Event) → IsCompleteFrom initial events
+        → completed initial events ≡ events }
+    ensures history { (initial : List ℕ) (events : List Event) → MayBePending initial events
+        → IsHistoryFrom initial events }
 {}

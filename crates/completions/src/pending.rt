@@ -27,7 +27,8 @@ pub(crate) fn is_pending(last: &[Option<Event>], event: Event) -> bool
 
 /// Returns the least ticket of a pending call, or the greatest number if no call is pending.
 fn least_pending(last: &[Option<Event>]) -> u64
-    ensures { (events : List Event) → AreLast events last.now → (call : Event) → call.thread ≤ MAX_THREAD → IsPendingCall events call
+    ensures { (events : List Event) → AreLast events last.now → (call : Event) → call.thread ≤ MAX_THREAD
+        → IsPendingCall events call
         → result ≤ call.ticket }
 {
     let mut least = u64::MAX;
@@ -44,7 +45,8 @@ fn least_pending(last: &[Option<Event>]) -> u64
 /// Returns a place before which no call is pending. Looks only at the events from there on.
 pub(crate) fn first_pending(events: &[PackedEvent], last: &[Option<Event>]) -> usize
     requires last { AreLast events.now last.now }
-    ensures before { (initial : List ℕ) → IsHistoryFrom initial events.now → All (λ e. is_pending events.now e ≡ false) (take result events.now) }
+    ensures before { (initial : List ℕ) → IsHistoryFrom initial events.now
+        → All (λ e. is_pending events.now e ≡ false) (take result events.now) }
     ensures within { result ≤ length events.now }
 {
     let least = least_pending(last);

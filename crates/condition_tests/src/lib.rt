@@ -1,4 +1,5 @@
-//! Tests of conditions weaker than linearizability. The crate has tests alone: a crate's own tests would prove it a second time.
+//! Tests of conditions weaker than linearizability. The crate has only tests: in a crate's own tests they would prove
+//! that crate a second time.
 #![tactic(auto)]
 
 #[cfg(test)]

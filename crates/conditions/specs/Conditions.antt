@@ -29,7 +29,8 @@ IsWeaklyLinearizable whole = AreLinearizable (without_empties whole)
 abbrev pub enqueues : ℕ → Operation → Bool
 enqueues v o = option_map_or (λ w. nat_eq w v) (enqueued_value o.kind) false
 
--- the producer of a value: that of the initial values, or the thread of its enqueue, successful or failed; none if nobody enqueues it
+-- the producer of a value: that of the initial values, or the thread of its enqueue, successful or failed; none if
+-- nobody enqueues it
 abbrev pub producer_of : Contents → ℕ → Option Producer
 producer_of whole v =
     (if is_initial whole.initial v then Some Initial else option_map (λ o. Thread o.thread) (find (enqueues v) whole.operations))

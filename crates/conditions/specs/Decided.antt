@@ -41,7 +41,8 @@ pub record IsDecidedOf (whole selected : Contents) (verdict : Verdict) : Type 0 
 
 -- ---- local linearizability
 
--- a verdict for each producer of the history, in their order: a linearization of its selection; and the other selections have one too
+-- a verdict for each producer of the history, in their order: a linearization of its selection; and the other
+-- selections have one too
 pub record AreLocalOrders (emptiness : Emptiness) (whole : Contents) (orders : List LocalOrder) : Type 0 where
   pub linearizable : IsLocallyLinearizable emptiness whole
   pub producers : map (λ x. x.producer) orders ≡ producers_of whole

@@ -117,7 +117,8 @@ pub(crate) fn share_out(
 ) -> Result<Vec<Bucket>, AllocError>
     requires few { length operations.now ≤ MAX_EVENTS }
     requires marked { AreMarked operations.now used.now }
-    ensures { IfOk result (λ buckets. (whole : Contents) → whole.operations ≡ operations.now → AreProducers whole producers.now.by_value.items
+    ensures { IfOk result (λ buckets. (whole : Contents) → whole.operations ≡ operations.now
+        → AreProducers whole producers.now.by_value.items
         → AreSharedOut emptiness whole used.now buckets.items) }
 {
     let mut guesses = [0; GUESSES];

@@ -1,6 +1,7 @@
 //! Laws of the conditions, as contracts of functions that do nothing when they run.
-ghost use Rattle.conditions.specs.ClaimLaws.{FirstRefutedIsOne, LocalEvidenceIsTrueClaim, LocalVerdictIsOne, RefutedIsRefutedInTheWhole};
-ghost use Rattle.conditions.specs.ClaimLaws.{TrueLocalClaimDecides, TrueWeakClaimDecides, WeakEvidenceIsTrueClaim, WeakVerdictIsOne};
+ghost use Rattle.conditions.specs.ClaimLaws.{FirstRefutedIsOne, LocalEvidenceIsTrueClaim, LocalVerdictIsOne};
+ghost use Rattle.conditions.specs.ClaimLaws.{RefutedIsRefutedInTheWhole, TrueLocalClaimDecides};
+ghost use Rattle.conditions.specs.ClaimLaws.{TrueWeakClaimDecides, WeakEvidenceIsTrueClaim, WeakVerdictIsOne};
 ghost use Rattle.conditions.specs.Laws.{BothAreWeakest, ConditionsAreWeaker, SelectionsStayLinearizable};
 ghost use Rattle.conditions.specs.Laws.{StaysLocallyMinimal, StaysWeaklyMinimal, ViolationsAreOfTheWhole};
 
@@ -18,8 +19,9 @@ pub fn conditions_are_weaker()
     ensures both { BothAreWeakest }
 {}
 
-/// Proves that a minimal part of a history without its empty dequeues, as [`verdicts::shrink`] returns one, is minimal for weak
-/// emptiness, and that a minimal part of a producer's selection is minimal for local linearizability.
+/// Proves that a minimal part of a history without its empty dequeues, as [`verdicts::shrink`] returns one, is
+/// minimal for weak emptiness, and that a minimal part of a producer's selection is minimal for local
+/// linearizability.
 pub fn shrunk_selections_are_minimal()
     ensures weak { StaysWeaklyMinimal }
     ensures local { StaysLocallyMinimal }

@@ -112,7 +112,8 @@ pub fn selection(
     producer: Producer,
     emptiness: Emptiness,
 ) -> Result<History, AllocError>
-    ensures selected { IfOk result (λ part. contents_of part ≡ selection_of emptiness producer (contents_of history.now)) }
+    ensures selected { IfOk result
+        (λ part. contents_of part ≡ selection_of emptiness producer (contents_of history.now)) }
     ensures events { IfOk result (λ part. ArePartOf history.now.events part.events) }
     ensures complete { IfOk result (λ part. IsCompleteFrom part.initial part.events) }
 {
@@ -132,7 +133,8 @@ fn decide_selection<S: WitnessSearch>(
     requires places { (emptiness : Emptiness) × ArePlacesOf (operations_of history.now.events) places.now
         (selection_of emptiness producer (contents_of history.now)).operations }
     ensures { IfOk result (λ verdict. (emptiness : Emptiness)
-        → ArePlacesOf (operations_of history.now.events) places.now (selection_of emptiness producer (contents_of history.now)).operations
+        → ArePlacesOf (operations_of history.now.events) places.now
+        (selection_of emptiness producer (contents_of history.now)).operations
         → IsDecidedOf (contents_of history.now) (selection_of emptiness producer (contents_of history.now)) verdict) }
 {
     let part = part_at(alloc, history, producer, places)?;
@@ -150,8 +152,10 @@ fn decide_selections<S: WitnessSearch>(
     requires search { S.is_ready search.now }
     requires complete { IsCompleteFrom history.now.initial history.now.events }
     requires few { length history.now.initial ≤ MAX_INITIAL }
-    requires shared { (emptiness : Emptiness) × AreSharedOut emptiness (contents_of history.now) selections.now.used selections.now.buckets.items }
-    ensures { IfOk result (λ verdict. (emptiness : Emptiness) → AreSharedOut emptiness (contents_of history.now) selections.now.used selections.now.buckets.items
+    requires shared { (emptiness : Emptiness) × AreSharedOut emptiness
+        (contents_of history.now) selections.now.used selections.now.buckets.items }
+    ensures { IfOk result (λ verdict. (emptiness : Emptiness)
+        → AreSharedOut emptiness (contents_of history.now) selections.now.used selections.now.buckets.items
         → IsLocallyDecided emptiness (contents_of history.now) verdict) }
 {
     let mut orders = Vec::new(alloc);
@@ -217,7 +221,7 @@ pub fn decide_local_by<S: WitnessSearch>(
     ensures { IfOk result (IsLocallyDecided emptiness (contents_of history.now)) }
 {
     let selections = selections_of(alloc, history, emptiness)?;
-    // Tells the proof that the history is complete and within the limits, as the contracts of these calls say.
+    // Shows the proof that the history is complete and within the limits, as the contracts of these calls say.
     let _initial = history.initial();
     decide_selections(search, alloc, history, &selections)
 }

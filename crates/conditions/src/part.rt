@@ -22,11 +22,13 @@ pub(crate) fn part_of(
     places: Vec<OpId>,
 ) -> Result<Part, AllocError>
     requires few_initial { vec_len initial ≤ MAX_INITIAL }
-    requires selected { (values : ℕ → Bool) × (empties : ℕ → Bool) × AreSelected (contents_of history.now) values empties initial.items places.items }
-    ensures { IfOk result (λ part. (values empties : ℕ → Bool) → AreSelected (contents_of history.now) values empties initial.items places.items
+    requires selected { (values : ℕ → Bool) × (empties : ℕ → Bool)
+        × AreSelected (contents_of history.now) values empties initial.items places.items }
+    ensures { IfOk result (λ part. (values empties : ℕ → Bool)
+        → AreSelected (contents_of history.now) values empties initial.items places.items
         → IsPart history.now (select values empties (contents_of history.now)) part) }
 {
-    // Tells the proof that the history is complete and within the limits, as the contract of this call says.
+    // Shows the proof that the history is complete and within the limits, as the contract of this call says.
     let _operations = history.operations();
     let history = part_at(alloc, history, initial, places.as_slice())?;
     Ok(Part { history, places })

@@ -1,5 +1,6 @@
 //! The producers of a history's values.
-ghost use Rattle.std.specs.Prelude.{◌≡◌, ◌<◌, ◌↔◌, IfOk, IfSome, IsTrue, MatchOption, None, filter_map, length, slice_index_or};
+ghost use Rattle.std.specs.Prelude.{◌≡◌, ◌<◌, ◌↔◌, IfOk, IfSome, IsTrue, MatchOption};
+ghost use Rattle.std.specs.Prelude.{None, filter_map, length, slice_index_or};
 ghost use Rattle.conditions.specs.declared.producers.Produced.{Produced};
 ghost use Rattle.history_merge.specs.Initial.{Contents};
 ghost use Rattle.verdicts.specs.Selection.{contents_of};
@@ -38,7 +39,8 @@ impl Producers {
     fn find(&self, guess: usize, value: u64) -> Option<usize>
         ensures within { IfSome result (λ place. place < length self.now.by_value.items) }
         ensures found { (whole : Contents) → AreProducers whole self.now.by_value.items
-            → MatchOption result (None ≡ producer_of whole value) (λ place. (d : Produced) → (slice_index_or self.now.by_value.items place d).value ≡ value) }
+            → MatchOption result (None ≡ producer_of whole value)
+            (λ place. (d : Produced) → (slice_index_or self.now.by_value.items place d).value ≡ value) }
     {
         let by_value = self.by_value.as_slice();
         if guess < by_value.len() && stands_at(by_value, guess, value) {

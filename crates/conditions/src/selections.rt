@@ -31,7 +31,8 @@ pub(crate) fn selections_of(
     history: &History,
     emptiness: Emptiness,
 ) -> Result<Selections, AllocError>
-    ensures { IfOk result (λ shared. AreSharedOut emptiness (contents_of history.now) shared.used shared.buckets.items) }
+    ensures { IfOk result
+        (λ shared. AreSharedOut emptiness (contents_of history.now) shared.used shared.buckets.items) }
 {
     let producers = Producers::new(alloc, history)?;
     let operations = history.operations();
@@ -64,7 +65,8 @@ pub(crate) fn part_at(
     requires { (emptiness : Emptiness) × ArePlacesOf (operations_of history.now.events) places.now
         (selection_of emptiness producer (contents_of history.now)).operations }
     ensures { IfOk result (λ part. (emptiness : Emptiness)
-        → ArePlacesOf (operations_of history.now.events) places.now (selection_of emptiness producer (contents_of history.now)).operations
+        → ArePlacesOf (operations_of history.now.events) places.now
+        (selection_of emptiness producer (contents_of history.now)).operations
         → IsPart history.now (selection_of emptiness producer (contents_of history.now)) part) }
 {
     let initial = initial_of(alloc, history.initial(), producer)?;

@@ -59,7 +59,8 @@ pub(crate) fn share_of(
     emptiness: Emptiness,
     kind: OpKind,
 ) -> Share
-    ensures { (whole : Contents) → AreProducers whole producers.now.by_value.items → result ≡ share_of whole emptiness kind }
+    ensures { (whole : Contents) → AreProducers whole producers.now.by_value.items
+        → result ≡ share_of whole emptiness kind }
 {
     match kind {
         OpKind::Enq(value) | OpKind::Not(value) => {
@@ -84,7 +85,8 @@ fn is_selected(
     emptiness: Emptiness,
     producer: Producer,
 ) -> bool
-    ensures { (whole : Contents) (o : Operation) → AreProducers whole producers.now.by_value.items → slice_get operations.now place ≡ Some o
+    ensures { (whole : Contents) (o : Operation) → AreProducers whole producers.now.by_value.items
+        → slice_get operations.now place ≡ Some o
         → result ≡ goes_to producer (share_of whole emptiness o.kind) }
 {
     match operations.get(place) {
@@ -106,7 +108,8 @@ pub(crate) fn places_selected(
 ) -> Result<Vec<OpId>, AllocError>
     requires { length operations.now ≤ MAX_EVENTS }
     ensures { IfOk result (λ places. (whole : Contents) → AreProducers whole producers.now.by_value.items
-        → ArePlacesOf operations.now places.items (filter (λ o. goes_to producer (share_of whole emptiness o.kind)) operations.now)) }
+        → ArePlacesOf operations.now places.items
+        (filter (λ o. goes_to producer (share_of whole emptiness o.kind)) operations.now)) }
 {
     let mut guesses = [0; GUESSES];
     let mut places = Vec::new(alloc);

@@ -48,7 +48,8 @@ fn is_true_of(
     requires { (emptiness : Emptiness) × ArePlacesOf (operations_of history.now.events) places.now
         (selection_of emptiness producer (contents_of history.now)).operations }
     ensures { IfOk result (λ valid. (emptiness : Emptiness)
-        → ArePlacesOf (operations_of history.now.events) places.now (selection_of emptiness producer (contents_of history.now)).operations
+        → ArePlacesOf (operations_of history.now.events) places.now
+        (selection_of emptiness producer (contents_of history.now)).operations
         → IsTrue valid ↔ IsTrueClaim (selection_of emptiness producer (contents_of history.now)).initial
         (selection_of emptiness producer (contents_of history.now)).operations claimed.now) }
 {
@@ -67,7 +68,8 @@ fn is_order_of(
     requires { (emptiness : Emptiness) × ArePlacesOf (operations_of history.now.events) places.now
         (selection_of emptiness producer (contents_of history.now)).operations }
     ensures { IfOk result (λ valid. (emptiness : Emptiness)
-        → ArePlacesOf (operations_of history.now.events) places.now (selection_of emptiness producer (contents_of history.now)).operations
+        → ArePlacesOf (operations_of history.now.events) places.now
+        (selection_of emptiness producer (contents_of history.now)).operations
         → IsTrue valid ↔ IsLegalOrder (selection_of emptiness producer (contents_of history.now)).initial
         (selection_of emptiness producer (contents_of history.now)).operations lines.now) }
 {
@@ -83,7 +85,8 @@ fn are_orders_in_turn(
     selections: &Selections,
     lines: &[Operation],
 ) -> Result<bool, AllocError>
-    requires { (emptiness : Emptiness) × AreSharedOut emptiness (contents_of history.now) selections.now.used selections.now.buckets.items }
+    requires { (emptiness : Emptiness) × AreSharedOut emptiness
+        (contents_of history.now) selections.now.used selections.now.buckets.items }
     ensures { IfOk result (λ valid. (emptiness : Emptiness)
         → AreSharedOut emptiness (contents_of history.now) selections.now.used selections.now.buckets.items
         → IsTrue valid ↔ IsTrueLocalClaim emptiness (contents_of history.now) (Claimed.Yes lines.now)) }
@@ -114,7 +117,8 @@ fn is_true_of_some(
 ) -> Result<bool, AllocError>
     requires complete { IsCompleteFrom history.now.initial history.now.events }
     requires few { length history.now.initial ≤ MAX_INITIAL }
-    requires shared { (emptiness : Emptiness) × AreSharedOut emptiness (contents_of history.now) selections.now.used selections.now.buckets.items }
+    requires shared { (emptiness : Emptiness) × AreSharedOut emptiness
+        (contents_of history.now) selections.now.used selections.now.buckets.items }
     ensures { IfOk result (λ valid. (emptiness : Emptiness)
         → AreSharedOut emptiness (contents_of history.now) selections.now.used selections.now.buckets.items
         → (kind : ViolationKind) (lines : List ClaimLine) → claimed.now ≡ Claimed.No kind lines
@@ -142,10 +146,11 @@ pub fn verify_local(
     emptiness: Emptiness,
     claimed: &Claimed,
 ) -> Result<bool, AllocError>
-    ensures exact { IfOk result (λ valid. IsTrue valid ↔ IsTrueLocalClaim emptiness (contents_of history.now) claimed.now) }
+    ensures exact { IfOk result
+        (λ valid. IsTrue valid ↔ IsTrueLocalClaim emptiness (contents_of history.now) claimed.now) }
 {
     let selections = selections_of(alloc, history, emptiness)?;
-    // Tells the proof that the history is complete and within the limits, as the contracts of these calls say.
+    // Shows the proof that the history is complete and within the limits, as the contracts of these calls say.
     let _initial = history.initial();
     match claimed {
         Claimed::Yes(lines) => are_orders_in_turn(alloc, history, &selections, lines.as_slice()),

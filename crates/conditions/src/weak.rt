@@ -20,7 +20,8 @@ use verdicts::{Verdict, decide_by};
 
 /// Returns whether the operation at `place` has a value, which only an empty dequeue has not.
 fn has_value(operations: &Operations<'_>, place: OpId) -> bool
-    ensures { (o : Operation) → slice_get operations.now place ≡ Some o → result ≡ selects (λ value. true) (λ call. false) o }
+    ensures { (o : Operation) → slice_get operations.now place ≡ Some o
+        → result ≡ selects (λ value. true) (λ call. false) o }
 {
     match operations.get(place) {
         Some(operation) => match operation.kind {
@@ -37,7 +38,8 @@ fn places_without_empties(
     operations: &Operations<'_>,
 ) -> Result<Vec<OpId>, AllocError>
     requires { length operations.now ≤ MAX_EVENTS }
-    ensures { IfOk result (λ places. ArePlacesOf operations.now places.items (filter (selects (λ value. true) (λ call. false)) operations.now)) }
+    ensures { IfOk result (λ places. ArePlacesOf operations.now places.items
+        (filter (selects (λ value. true) (λ call. false)) operations.now)) }
 {
     let mut places = Vec::new(alloc);
     for place in 0..operations.len() {

@@ -8,7 +8,7 @@ use std::alloc::Global;
 use std::sync::{Mutex, Wait};
 use std::test::Fail;
 
-/// The history of a text.
+/// Returns the history of a text.
 fn history_in(alloc: Global, text: &[u8]) -> Result<History, Fail> {
     let mut reader = TextReader::new(MemorySource::new(text));
     let (_, builder) = read_history(alloc, &mut reader)?;
@@ -212,7 +212,7 @@ impl<R: Wait + Drop> OneSlot<R> {
     }
 }
 
-/// An empty queue.
+/// Returns an empty queue.
 fn one_slot<R: Wait + Drop>(rt: R) -> OneSlot<R> {
     OneSlot {
         rt,

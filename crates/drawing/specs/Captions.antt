@@ -38,12 +38,12 @@ abbrev pub fresh_words : List ClaimLine → List ℕ
 fresh_words [] = line (codes " was dequeued (1), but nobody ever enqueued it.")
 fresh_words (enq ∷ rest) = fresh_reason (line_kind enq)
 
--- how a value that was dequeued twice came into the queue
+-- the words about the origin of a value that was dequeued twice
 abbrev pub repeat_words : ClaimLine → List ℕ
 repeat_words (Op enq) = line (codes " was enqueued once (1), but dequeued twice (2 and 3).")
 repeat_words (Initial v) = line (codes " was in the queue first (1), but dequeued twice (2 and 3).")
 
--- how a came into the queue before b
+-- the words about the origin of a before b
 abbrev pub before_words : ClaimLine → List ℕ
 before_words (Op enq) = codes " was enqueued (1) before "
 before_words (Initial v) = codes " was in the queue (1) before "

@@ -1,9 +1,9 @@
 //! The words of a picture.
 ghost use Rattle.std.specs.Prelude.{◌≡◌, ◌++◌, ◌+◌, ◌≤◌, OnOk, length};
 ghost use Rattle.drawing.specs.Claim.{count_of_lines};
-ghost use Rattle.drawing.specs.Captions.{headline, fresh_words, repeat_words, before_words, overtaking_caption, order_caption};
-ghost use Rattle.drawing.specs.Captions.{never_returned, between_words, end_words};
-ghost use Rattle.drawing.specs.Captions.{cover_from, one_of_cover, cover_caption, witness_words, caption};
+ghost use Rattle.drawing.specs.Captions.{headline, fresh_words, repeat_words, before_words, overtaking_caption};
+ghost use Rattle.drawing.specs.Captions.{order_caption, never_returned, between_words, end_words, cover_from};
+ghost use Rattle.drawing.specs.Captions.{one_of_cover, cover_caption, witness_words, caption};
 
 use crate::bands::{line_value, push_named};
 use crate::claim::{line_call, line_kind, line_return};

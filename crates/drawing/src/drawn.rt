@@ -2,8 +2,9 @@
 ghost use Rattle.std.specs.Prelude.{◌≡◌, IfOk, filter, map};
 ghost use Rattle.std.specs.List.{list_any};
 ghost use Rattle.event_records.specs.Turns.{TicketsRise};
-ghost use Rattle.drawing.specs.Drawn.{events_before, standing_of, stand_near, is_near_any, operations_in, drawn_operations, overlaps_line};
-ghost use Rattle.drawing.specs.Drawn.{is_away, has_value, is_initial, is_drawn_initial, drawn_initial};
+ghost use Rattle.drawing.specs.Drawn.{events_before, standing_of, stand_near, is_near_any};
+ghost use Rattle.drawing.specs.Drawn.{operations_in, drawn_operations, overlaps_line, is_away};
+ghost use Rattle.drawing.specs.Drawn.{has_value, is_initial, is_drawn_initial, drawn_initial};
 
 use crate::claim::shown_by;
 use crate::columns::events_of;
@@ -72,7 +73,8 @@ fn near_operations(
     around: usize,
 ) -> Result<Vec<Operation>, AllocError>
     requires { TicketsRise events.now }
-    ensures { IfOk result (λ near. near.items ≡ filter (is_near_any events.now around (operations_in lines.now)) operations.now) }
+    ensures { IfOk result
+        (λ near. near.items ≡ filter (is_near_any events.now around (operations_in lines.now)) operations.now) }
 {
     let listed = standings_in(alloc, events, lines)?;
     let mut near = Vec::new(alloc);

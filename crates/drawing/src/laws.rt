@@ -1,8 +1,10 @@
-ghost use Rattle.drawing.specs.Laws.{LanesAreApart, BarsAreOfOperations, NoOtherBars, EffectsAreInBars, EffectsRise, NumbersAreOfLines};
-ghost use Rattle.drawing.specs.Laws.{OverlappingAreDrawn, NoOthersAreDrawn, LinesAreDrawn, EventsAreCounted};
-ghost use Rattle.drawing.specs.Laws.{RowsRise, InitialValuesHaveRows, ValuesAreCounted, OperationsHaveRows, EffectsHaveRows, InitialRowsAreFirst, RowsTellPrecedence};
-ghost use Rattle.drawing.specs.Laws.{EffectRowsAreInBars, EffectRowsRise};
-ghost use Rattle.drawing.specs.Laws.{ValuesHaveTheirNames, InitialValuesHaveTheirNames, LinesHaveNumbers, InitialNumbersAreOfLines, InitialLinesHaveNumbers, LinesAreOfHistory};
+ghost use Rattle.drawing.specs.Laws.{LanesAreApart, BarsAreOfOperations, NoOtherBars, EffectsAreInBars};
+ghost use Rattle.drawing.specs.Laws.{EffectsRise, NumbersAreOfLines, OverlappingAreDrawn, NoOthersAreDrawn};
+ghost use Rattle.drawing.specs.Laws.{LinesAreDrawn, EventsAreCounted, RowsRise, InitialValuesHaveRows};
+ghost use Rattle.drawing.specs.Laws.{ValuesAreCounted, OperationsHaveRows, EffectsHaveRows, InitialRowsAreFirst};
+ghost use Rattle.drawing.specs.Laws.{RowsTellPrecedence, EffectRowsAreInBars, EffectRowsRise};
+ghost use Rattle.drawing.specs.Laws.{ValuesHaveTheirNames, InitialValuesHaveTheirNames, LinesHaveNumbers};
+ghost use Rattle.drawing.specs.Laws.{InitialNumbersAreOfLines, InitialLinesHaveNumbers, LinesAreOfHistory};
 
 /// Laws: for a `NO` the operations that it lists are drawn, and those that overlap one of these; at distance 0 no
 /// others are. The laws are the contract; the body is empty.

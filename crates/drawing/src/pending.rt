@@ -5,7 +5,8 @@ ghost use Rattle.drawing.specs.Pending.{is_added, is_pending};
 
 use history_merge::Operation;
 
-/// Returns whether the event of this ticket was added to a history by a completion, which added those from `added_from` on.
+/// Returns whether the event of this ticket was added to a history by a completion, which added those from
+/// `added_from` on.
 pub(crate) fn is_added(added_from: Option<u64>, ticket: u64) -> bool
     ensures { result ≡ is_added added_from ticket }
 {
@@ -15,7 +16,8 @@ pub(crate) fn is_added(added_from: Option<u64>, ticket: u64) -> bool
     }
 }
 
-/// Returns whether the call of an operation is pending: its return was added by a completion, which added those from `added_from` on.
+/// Returns whether the call of an operation is pending: its return was added by a completion, which added those from
+/// `added_from` on.
 pub fn is_pending(added_from: Option<u64>, operation: Operation) -> bool
     ensures { result ≡ is_pending added_from operation }
 {

@@ -1,8 +1,9 @@
 //! The scene of a picture, which characters and SVG draw alike: rows from top to bottom, and lanes side by side.
 ghost use Rattle.std.specs.Prelude.{if◌then◌else◌, codes, flat_map, ◌≡◌, ◌==◌, ◌++◌, ◌≤◌, ◌+◌, OnOk, IfOk, length};
 ghost use Rattle.std.specs.List.{enumerate_from};
-ghost use Rattle.drawing.specs.Scene.{scene_on, initial_row, initial_rows, values_left_out, effect_rows, has_row, left_out_rows, rows_after, rows_of, scene_of};
-ghost use Rattle.drawing.specs.Scene.{gap_of, row_turn, stands_above, row_number, ticket_words, ticket_width, lanes_before, way_in};
+ghost use Rattle.drawing.specs.Scene.{scene_on, initial_row, initial_rows, values_left_out, effect_rows, has_row};
+ghost use Rattle.drawing.specs.Scene.{left_out_rows, rows_after, rows_of, scene_of, gap_of, row_turn};
+ghost use Rattle.drawing.specs.Scene.{stands_above, row_number, ticket_words, ticket_width, lanes_before, way_in};
 
 use crate::bands::{bands_of, gap_time};
 use crate::claim::{line_kind, order_of};

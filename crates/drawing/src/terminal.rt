@@ -1,5 +1,6 @@
 //! Drawing a picture as lines of characters.
-ghost use Rattle.std.specs.Prelude.{if◌then◌else◌, ◌==◌, ◌≡◌, ◌≤◌, ◌-◌, ◌++◌, [], IfOk, IfSome, OnOk, length, unwrap_or};
+ghost use Rattle.std.specs.Prelude.{if◌then◌else◌, ◌==◌, ◌≡◌, ◌≤◌, ◌-◌, ◌++◌};
+ghost use Rattle.std.specs.Prelude.{[], IfOk, IfSome, OnOk, length, unwrap_or};
 ghost use Rattle.std.specs.List.{flat_map};
 ghost use Rattle.drawing.specs.Claim.{count_of_lines, shown_by};
 ghost use Rattle.text_lines.specs.Lines.{line};
@@ -7,10 +8,10 @@ ghost use Rattle.drawing.specs.Layout.{kind_word, told, label, numbered, number_
 ghost use Rattle.drawing.specs.Scene.{scene_on};
 ghost use Rattle.drawing.specs.Signs.{signs_of};
 ghost use Rattle.drawing.specs.Words.{placed, with_words, line_of};
-ghost use Rattle.drawing.specs.Terminal.{one_of, returns_at, event_sign, lane_sign, lane_column, lane_words, band_words, beside_words};
-ghost use Rattle.drawing.specs.Terminal.{operation_label, call_label, told_word, row_words, strokes, under, thread_digits, lane_names, name_words};
-ghost use Rattle.drawing.specs.Terminal.{heads, numbered_row, sign_text, sign_line, effect_meaning};
-ghost use Rattle.drawing.specs.Terminal.{legend, words, terminal_picture};
+ghost use Rattle.drawing.specs.Terminal.{one_of, returns_at, event_sign, lane_sign, lane_column, lane_words};
+ghost use Rattle.drawing.specs.Terminal.{band_words, beside_words, operation_label, call_label, told_word, row_words};
+ghost use Rattle.drawing.specs.Terminal.{strokes, under, thread_digits, lane_names, name_words, heads, numbered_row};
+ghost use Rattle.drawing.specs.Terminal.{sign_text, sign_line, effect_meaning, legend, words, terminal_picture};
 
 use crate::bands::{form_at, head_words};
 use crate::captions::{headline, push_caption};
@@ -111,7 +112,8 @@ fn returns_at(scene: &Scene<'_>, ticket: u64, operation: Operation) -> bool
 
 /// Returns the sign of an operation in its lane: a call with its number, a return, or a bar in between.
 fn event_sign(sheet: &Sheet<'_>, ticket: u64, operation: Operation) -> Result<Vec<u8>, AllocError>
-    ensures { IfOk result (λ word. word.items ≡ event_sign sheet.now.columns (scene_on sheet.now.scene.now) ticket operation) }
+    ensures { IfOk result
+        (λ word. word.items ≡ event_sign sheet.now.columns (scene_on sheet.now.scene.now) ticket operation) }
 {
     let claimed = sheet.scene.claimed;
     let away = is_away(claimed, operation);
@@ -169,7 +171,8 @@ fn lane_column(sheet: &Sheet<'_>, thread: u8) -> usize
 
 /// Places the signs in the lanes of a row.
 fn place_lanes(line: &mut Vec<u8>, sheet: &Sheet<'_>, row: Row) -> Added
-    ensures { OnOk result (line.new.items ≡ with_words line.old.items (lane_words sheet.now.columns (scene_on sheet.now.scene.now) row)) }
+    ensures { OnOk result
+        (line.new.items ≡ with_words line.old.items (lane_words sheet.now.columns (scene_on sheet.now.scene.now) row)) }
 {
     let operations = sheet.scene.operations.as_slice();
     let threads = sheet.scene.threads.as_slice();
@@ -185,7 +188,8 @@ fn place_lanes(line: &mut Vec<u8>, sheet: &Sheet<'_>, row: Row) -> Added
 /// Places the bands that hold a gap: the one just after a ticket, or the one before all tickets.
 #[tactic(auto, using(crate::proofs::Loops::steps))]
 fn place_bands(line: &mut Vec<u8>, sheet: &Sheet<'_>, gap: Option<u64>) -> Added
-    ensures { OnOk result (line.new.items ≡ with_words line.old.items (band_words sheet.now.columns (scene_on sheet.now.scene.now).bands gap)) }
+    ensures { OnOk result (line.new.items ≡ with_words line.old.items
+        (band_words sheet.now.columns (scene_on sheet.now.scene.now).bands gap)) }
 {
     let bands = sheet.scene.bands.as_slice();
     for (i, band) in bands.iter().enumerate() {
@@ -241,7 +245,8 @@ fn call_label(sheet: &Sheet<'_>, called: Option<Operation>) -> Result<Vec<u8>, A
 
 /// Places the words to the right of the bands or the lanes.
 fn place_told(line: &mut Vec<u8>, sheet: &Sheet<'_>, row: Row) -> Added
-    ensures { OnOk result (line.new.items ≡ placed line.old.items (told_word sheet.now.columns (scene_on sheet.now.scene.now) row)) }
+    ensures { OnOk result
+        (line.new.items ≡ placed line.old.items (told_word sheet.now.columns (scene_on sheet.now.scene.now) row)) }
 {
     let claimed = sheet.scene.claimed;
     match row {
@@ -308,7 +313,8 @@ fn thread_digits(alloc: Global, narrow: bool, tens: bool, thread: u8) -> Result<
 
 fn place_lane_names(line: &mut Vec<u8>, sheet: &Sheet<'_>, tens: bool) -> Added
     ensures { OnOk result (line.new.items ≡ with_words line.old.items
-        (lane_names sheet.now.columns (scene_on sheet.now.scene.now).threads tens (scene_on sheet.now.scene.now).threads)) }
+        (lane_names sheet.now.columns (scene_on sheet.now.scene.now).threads tens
+        (scene_on sheet.now.scene.now).threads)) }
 {
     let threads = sheet.scene.threads.as_slice();
     let narrow = sheet.columns.lane == 1;
@@ -322,7 +328,8 @@ fn place_lane_names(line: &mut Vec<u8>, sheet: &Sheet<'_>, tens: bool) -> Added
 /// Appends the line of the words above the tickets and the order, and of the threads' numbers; or the line of the
 /// tens of these alone.
 fn push_names(text: &mut Vec<u8>, sheet: &Sheet<'_>, tens: bool) -> Added
-    ensures { OnOk result (text.new.items ≡ text.old.items ++ line (line_of (name_words sheet.now.columns (scene_on sheet.now.scene.now) tens))) }
+    ensures { OnOk result (text.new.items ≡ text.old.items
+        ++ line (line_of (name_words sheet.now.columns (scene_on sheet.now.scene.now) tens))) }
 {
     let mut bytes = Vec::new(sheet.alloc);
     if !tens {
@@ -368,7 +375,8 @@ fn push_heads(text: &mut Vec<u8>, sheet: &Sheet<'_>) -> Added
 /// Places the words of a row.
 #[tactic(auto, unfolding(crate::specs::Terminal::row_words))]
 fn place_row(line: &mut Vec<u8>, sheet: &Sheet<'_>, row: Row) -> Added
-    ensures { OnOk result (line.new.items ≡ with_words line.old.items (row_words sheet.now.columns (scene_on sheet.now.scene.now) row)) }
+    ensures { OnOk result
+        (line.new.items ≡ with_words line.old.items (row_words sheet.now.columns (scene_on sheet.now.scene.now) row)) }
 {
     let tickets = ticket_words(sheet.alloc, sheet.scene.added_from, row)?;
     let column = sheet.columns.ticket.saturating_sub(tickets.len());
@@ -382,7 +390,8 @@ fn place_row(line: &mut Vec<u8>, sheet: &Sheet<'_>, row: Row) -> Added
 
 /// Appends row i.
 fn push_numbered(text: &mut Vec<u8>, sheet: &Sheet<'_>, i: usize, row: Row) -> Added
-    ensures { OnOk result (text.new.items ≡ text.old.items ++ numbered_row sheet.now.columns (scene_on sheet.now.scene.now) (i, row)) }
+    ensures { OnOk result
+        (text.new.items ≡ text.old.items ++ numbered_row sheet.now.columns (scene_on sheet.now.scene.now) (i, row)) }
 {
     if i > 0 && i % ROWS_UNDER_HEADS == 0 {
         push_heads(text, sheet)?;
@@ -418,7 +427,8 @@ fn effect_meaning(narrow: bool, claimed: &Claimed) -> &'static [u8]
 
 /// Appends the signs of the picture with their meanings.
 fn push_signs(text: &mut Vec<u8>, sheet: &Sheet<'_>) -> Added
-    ensures { OnOk result (text.new.items ≡ text.old.items ++ flat_map sign_line (signs_of (scene_on sheet.now.scene.now))) }
+    ensures { OnOk result
+        (text.new.items ≡ text.old.items ++ flat_map sign_line (signs_of (scene_on sheet.now.scene.now))) }
 {
     let signs = signs_of(sheet.alloc, sheet.scene)?;
     for sign in signs.as_slice() {

@@ -133,7 +133,7 @@ module _ (h : Course) where
       → IsFirstCovered h places answer
   first_of seen places answer is first = record { at = is.at; is_empty = is.is_empty; is_covered = is.is_covered; first = first }
 
-  -- of the first ones of two lists of places, the sooner is the first of both
+  -- the sooner of the first ones of two lists of places is the first of both
   pub sooner_is_first : (low high : List ℕ) (a b r : EmptyAnswer) → IsFirstCovered h low a → IsFirstCovered h high b
       → IsSoonerOf a b r → IsFirstCovered h (low ++ high) r
   sooner_is_first low high a b r is_a is_b sooner = elim sooner.is_one [

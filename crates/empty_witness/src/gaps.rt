@@ -29,7 +29,8 @@ pub(crate) fn least_free_gap(spans: &[Span], answer: &Operation) -> Option<u64>
     requires apart { AreApart spans.now }
     requires late { ORIGIN ≤ answer.now.call }
     ensures { (history : Contents) → AreSpansOf (course_of history) spans.now
-        → MatchOption result (IsCovered (course_of history) answer.now) (λ gap. IsLeastFreeGap (course_of history) answer.now (time_of gap)) }
+        → MatchOption result (IsCovered (course_of history) answer.now)
+        (λ gap. IsLeastFreeGap (course_of history) answer.now (time_of gap)) }
 {
     let gap = first_outside(spans, answer.call);
     (gap < answer.ret).then_some(gap - ORIGIN)

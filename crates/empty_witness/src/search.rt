@@ -4,7 +4,8 @@ ghost use Rattle.history_merge.specs.declared.operation.OpKind.TheVariants.{Empt
 ghost use Rattle.history_merge.specs.Operations.{Did};
 ghost use Rattle.value_match.specs.Lives.{course_of, timed};
 ghost use Rattle.value_match.specs.Outcome.{IsOperation};
-ghost use Rattle.empty_witness.specs.Answers.{AreAllWindows, AreWindowsAt, IsEmptyAnswerAt, IsFirstCovered, IsGapAnswer, IsSoonerOf, IsWitnessAnswer};
+ghost use Rattle.empty_witness.specs.Answers.{AreAllWindows, AreWindowsAt, IsEmptyAnswerAt};
+ghost use Rattle.empty_witness.specs.Answers.{IsFirstCovered, IsGapAnswer, IsSoonerOf, IsWitnessAnswer};
 ghost use Rattle.empty_witness.specs.Spans.{AreSpansOf};
 
 use crate::answer::{GapAnswer, Gaps, WitnessAnswer};
@@ -153,7 +154,8 @@ fn first_covered(
 ) -> EmptyAnswer
     requires others { All (IsEmptyAnswerAt matching.now.operations) others.now }
     requires spans { AreSpansOf (course_of matching.now) spans.now }
-    ensures { (seen : List ℕ) → IsFirstCovered (course_of matching.now) seen covered → IsFirstCovered (course_of matching.now) (seen ++ others.now) result }
+    ensures { (seen : List ℕ) → IsFirstCovered (course_of matching.now) seen covered
+        → IsFirstCovered (course_of matching.now) (seen ++ others.now) result }
 {
     let mut first = covered;
     for index in 0..others.len() {

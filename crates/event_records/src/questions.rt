@@ -53,7 +53,13 @@ impl Model for AskEnq {
 
     ghost Value = { Question };
 
-    ghost view = { λ q. record { thread = q.asked.thread; number = q.asked.number; kind = Enq; call = q.asked.drawn.ticket; key = q.asked.drawn.key } };
+    ghost view = { λ q. record {
+      thread = q.asked.thread;
+      number = q.asked.number;
+      kind = Enq;
+      call = q.asked.drawn.ticket;
+      key = q.asked.drawn.key;
+    } };
 
     ghost invariant = { λ q. q.asked.number < NAMES_OF_A_THREAD };
 }
@@ -72,7 +78,13 @@ impl Model for AskDeq {
 
     ghost Value = { Question };
 
-    ghost view = { λ q. record { thread = q.asked.thread; number = q.asked.number; kind = Deq; call = q.asked.drawn.ticket; key = q.asked.drawn.key } };
+    ghost view = { λ q. record {
+      thread = q.asked.thread;
+      number = q.asked.number;
+      kind = Deq;
+      call = q.asked.drawn.ticket;
+      key = q.asked.drawn.key;
+    } };
 
     ghost invariant = { λ q. q.asked.number < NAMES_OF_A_THREAD };
 }

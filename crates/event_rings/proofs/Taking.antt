@@ -4,7 +4,7 @@ use Rattle.std.proofs.Math.Seq.{take-append_seam}
 use Rattle.std.proofs.lemmas.List.{take-append-le, take_all}
 
 module _ {X : Type 0} where
-  -- of two prefixes of one list, the shorter is a prefix of the longer
+  -- the shorter of two prefixes of one list is a prefix of the longer
   pub front_of : (front rest known more : List X) → known ++ more ≡ front ++ rest → length front ≤ length known → front ≡ take (length front) known
   front_of front rest known more e h = sym (take-append_seam front rest) ∙ ap (take (length front)) (sym e) ∙ take-append-le (length front) known more h
 

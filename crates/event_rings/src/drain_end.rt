@@ -30,7 +30,11 @@ impl Model for DrainEnd {
 
     ghost Value = { DrainView };
 
-    ghost view = { λ d. record { ring = ring_of_consumer d.consumer; thread = d.thread; received = received d.consumer } };
+    ghost view = { λ d. record {
+      ring = ring_of_consumer d.consumer;
+      thread = d.thread;
+      received = received d.consumer;
+    } };
 }
 
 /// All events that were sent through a closed ring and not drained before, oldest first.
@@ -98,7 +102,8 @@ impl DrainEnd {
     /// Memory for them is reserved first. If it runs out, the events are all still in the ring.
     pub fn drain(&mut self, max: usize) -> Result<Vec<Event>, AllocError>
         requires { max ≤ MAX_RING }
-        ensures drained { IfOk result (λ events. self.new ≡ record self.old { received = self.old.received ++ events.items }) }
+        ensures drained { IfOk result
+            (λ events. self.new ≡ record self.old { received = self.old.received ++ events.items }) }
         ensures most { IfOk result (λ events. vec_len events ≤ max) }
         ensures refused { OnErr result (self.new ≡ self.old) }
     {
@@ -162,7 +167,8 @@ fn pop_into(
     requires known { count ≤ length (known_items consumer.old) }
     ensures ring { SameConsumer consumer.old consumer.new }
     ensures moved { OnOk result (events.new.items ≡ events.old.items ++ take count (known_items consumer.old)) }
-    ensures received { OnOk result (received consumer.new ≡ received consumer.old ++ take count (known_items consumer.old)) }
+    ensures received { OnOk result
+        (received consumer.new ≡ received consumer.old ++ take count (known_items consumer.old)) }
     ensures refused { OnErr result ((consumer.new ≡ consumer.old) × (events.new.items ≡ events.old.items)) }
 {
     let start = events.len();

@@ -98,7 +98,8 @@ impl PushEnd {
     /// many events were sent as the ring has room for.
     pub fn push(&mut self, noted: Noted) -> Result<(), Noted>
         requires { noted.thread ≡ self.old.thread }
-        ensures pushed { OnOk result (self.new ≡ record self.old { sent = self.old.sent ++ noted ∷ []; room = self.new.room }) }
+        ensures pushed { OnOk result
+            (self.new ≡ record self.old { sent = self.old.sent ++ noted ∷ []; room = self.new.room }) }
         ensures room { OnOk result (self.old.room ≤ self.new.room + 1) }
         ensures full { IfErr result (λ back. (back ≡ noted) × (self.new ≡ self.old)) }
         ensures succeeds { 0 < self.old.room → IsOk result }
@@ -114,7 +115,8 @@ impl PushEnd {
     ///
     /// Takes no memory.
     pub fn close(self) -> Result<CloseToken, CloseLost>
-        ensures { IfOk result (λ token. (token.ring ≡ self.ring) × (token.thread ≡ self.thread) × (token.sent ≡ self.sent)) }
+        ensures { IfOk result
+            (λ token. (token.ring ≡ self.ring) × (token.thread ≡ self.thread) × (token.sent ≡ self.sent)) }
     {
         let PushEnd { thread, producer } = self;
         match producer.finish() {

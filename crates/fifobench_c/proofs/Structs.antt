@@ -7,7 +7,7 @@ use Rattle.std.proofs.lemmas.List.{map-append, length-map}
 use Rattle.fifobench_c.specs.declared.recorded.RecordedEvent.{RecordedEvent}
 use Rattle.std.proofs.lemmas.Option.{slice_get_within}
 
--- as many events as structs
+-- there are as many events as structs
 pub as_many : (structs : List RecordedEvent) (events : List Event) → AreEvents structs events → length events ≡ length structs
 as_many structs events are =
     sym (length-map events (λ (e : Event). Some e)) ∙ ap (λ (l : List (Option Event)). length l) (sym are) ∙ length-map structs event_of
@@ -23,7 +23,7 @@ one_more structs i here event events inside is known are =
     ∙ ap (λ o. map (λ (e : Event). Some e) events ++ o ∷ []) known
     ∙ sym (map-append (λ (e : Event). Some e) events (event ∷ []))
 
--- among structs that are events none has an unknown kind
+-- among structs that are events, none has an unknown kind
 pub unknown_is_behind : (structs : List RecordedEvent) (n : ℕ) (events : List Event) (place : ℕ) (here : RecordedEvent)
     → AreEvents (take n structs) events → place < n → slice_get structs place ≡ Some here → event_of here ≡ None → ⊥
 unknown_is_behind [] n events place here are before at unknown = cc
@@ -39,7 +39,7 @@ none_unknown structs events are place first =
     let all = subst (λ l. AreEvents l events) (sym (take-length structs)) are in
     unknown_is_behind structs (length structs) events place first.here all (slice_get_within structs place first.here first.at) first.at first.unknown
 
--- structs are one list of events
+-- structs are only one list of events
 pub one_list : (structs : List RecordedEvent) (xs ys : List Event) → AreEvents structs xs → AreEvents structs ys → xs ≡ ys
 one_list structs xs ys are_x are_y = same_events xs ys (sym are_x ∙ are_y)
   where
@@ -48,7 +48,7 @@ one_list structs xs ys are_x are_y = same_events xs ys (sym are_x ∙ are_y)
     same_events (x ∷ xs) (y ∷ ys) same = let tail : xs ≡ ys = same_events xs ys (cc) in cc
     same_events xs ys same = cc
 
--- one struct is the first whose kind isn't known
+-- only one struct is the first of unknown kind
 pub one_first : (structs : List RecordedEvent) (i j : ℕ) → IsFirstUnknown structs i → IsFirstUnknown structs j → i ≡ j
 one_first structs i j x y =
     let not_before : ¬ (i < j) = λ less. unknown_is_behind structs j y.before i x.here y.known less x.at x.unknown in

@@ -7,7 +7,7 @@ use Rattle.text_lines.specs.Lines.{line}
 use Rattle.fifobench_c.specs.declared.recorded.RecordedEvent.{RecordedEvent}
 use Rattle.fifobench_c.specs.declared.recorded.TheConstants.{CALL_ENQ, RET_ENQ, RET_NOT, CALL_DEQ, RET_DEQ, RET_EMPTY, GREATEST_TOLD}
 
--- what a thread called or was answered, by the number of its kind and its value, which four kinds don't read
+-- the call or the return of an event, by the number of its kind and its value; four kinds ignore the value
 abbrev pub what_of : ℕ → ℕ → Option What
 what_of kind value =
     if kind == CALL_ENQ then Some (CallEnq value)
@@ -17,7 +17,8 @@ what_of kind value =
     else (if kind == RET_DEQ then Some (RetDeq value)
     else (if kind == RET_EMPTY then Some RetEmpty else None)))))
 
--- the event of a struct, where its kind is known. A thread above 255 counts as 255, and both are above the greatest of a history
+-- the event of a struct, if its kind is known; a thread above 255 counts as 255, and both are above the greatest of a
+-- history
 abbrev pub event_of : RecordedEvent → Option Event
 event_of e = option_map (λ what. record { ticket = e.ticket; thread = min e.thread GREATEST_TOLD; what = what }) (what_of e.what e.value)
 
@@ -25,7 +26,7 @@ event_of e = option_map (λ what. record { ticket = e.ticket; thread = min e.thr
 abbrev pub AreEvents : List RecordedEvent → List Event → Type 0
 AreEvents structs events = map event_of structs ≡ map Some events
 
--- the struct at this place is the first whose kind isn't known
+-- the struct at this place is the first of unknown kind
 pub record IsFirstUnknown (structs : List RecordedEvent) (place : ℕ) : Type 0 where
   pub before : List Event
   pub known : AreEvents (take place structs) before
@@ -33,6 +34,6 @@ pub record IsFirstUnknown (structs : List RecordedEvent) (place : ℕ) : Type 0 
   pub at : slice_get structs place ≡ Some here
   pub unknown : event_of here ≡ None
 
--- the line that refuses it
+-- the line that refuses an event of unknown kind at this place
 abbrev pub bad_what_line : ℕ → List ℕ
 bad_what_line place = line (codes "REFUSED BadWhat " ++ decimal place)

@@ -1,4 +1,4 @@
-//! How an answer gets into the caller's memory.
+//! Writing of answers into the caller's memory.
 ghost use Rattle.std.specs.Prelude.{◌≡◌, ◌⊎◌, List, ℕ, IfOk, length};
 ghost use Rattle.commands.specs.Answers.{memory_fault};
 ghost use Rattle.commands.specs.Outcomes.{answer_of, NamesPlaces};
@@ -9,10 +9,11 @@ use commands::{Outcome, status_of, text_of_outcome};
 use itoa::Buffer;
 use std::alloc::{AllocError, Global};
 
-/// Writes what was found; or that memory ran out for its text.
+/// Writes the outcome, or the fault that memory ran out for its text.
 pub(crate) fn tell(alloc: Global, outcome: &Outcome, answer: &mut [u8], needed: &mut usize) -> u8
     requires { NamesPlaces outcome.now }
-    ensures { TellsAnswer (answer_of outcome.now) answer.old answer.new needed.new result ⊎ TellsAnswer memory_fault answer.old answer.new needed.new result }
+    ensures { TellsAnswer (answer_of outcome.now) answer.old answer.new needed.new result
+        ⊎ TellsAnswer memory_fault answer.old answer.new needed.new result }
 {
     tell_text(
         text_of_outcome(alloc, outcome),
@@ -22,19 +23,20 @@ pub(crate) fn tell(alloc: Global, outcome: &Outcome, answer: &mut [u8], needed: 
     )
 }
 
-/// Writes that the kind of the event at this place isn't known; or that memory ran out for the line.
+/// Writes the fault that the kind of the event at this place is unknown, or that memory ran out for its line.
 pub(crate) fn tell_bad_what(
     alloc: Global,
     place: usize,
     answer: &mut [u8],
     needed: &mut usize,
 ) -> u8
-    ensures { Tells (bad_what_line place) 2 answer.old answer.new needed.new result ⊎ TellsAnswer memory_fault answer.old answer.new needed.new result }
+    ensures { Tells (bad_what_line place) 2 answer.old answer.new needed.new result
+        ⊎ TellsAnswer memory_fault answer.old answer.new needed.new result }
 {
     tell_text(bad_what(alloc, place), 2, answer, needed)
 }
 
-/// The line that refuses the event at this place.
+/// Builds the line for an event of unknown kind at this place.
 fn bad_what(alloc: Global, place: usize) -> Result<Vec<u8>, AllocError>
     ensures { IfOk result (λ text. text.items ≡ bad_what_line place) }
 {
@@ -45,7 +47,7 @@ fn bad_what(alloc: Global, place: usize) -> Result<Vec<u8>, AllocError>
     Ok(text)
 }
 
-/// Writes a text and its status; or that memory ran out for it, which takes none.
+/// Writes a text and returns its status, or writes that memory ran out for it, whose text takes no memory.
 fn tell_text(
     text: Result<Vec<u8>, AllocError>,
     status: u8,
@@ -53,7 +55,8 @@ fn tell_text(
     needed: &mut usize,
 ) -> u8
     ensures { (wanted : List ℕ) → IfOk text (λ found. found.items ≡ wanted)
-        → Tells wanted status answer.old answer.new needed.new result ⊎ TellsAnswer memory_fault answer.old answer.new needed.new result }
+        → Tells wanted status answer.old answer.new needed.new result
+        ⊎ TellsAnswer memory_fault answer.old answer.new needed.new result }
 {
     match text {
         Ok(text) => {
@@ -67,7 +70,7 @@ fn tell_text(
     }
 }
 
-/// Writes the text if it fits, and its length.
+/// Writes the length of the text, and the text if it fits.
 fn fill(text: &[u8], answer: &mut [u8], needed: &mut usize)
     ensures filled { Fills text.now answer.old answer.new }
     ensures needed { needed.new ≡ length text.now }

@@ -1,7 +1,8 @@
 //! The commands as functions for callers in C, C++ and Rust: a static library.
 //!
-//! Each function judges what the caller's memory holds and writes its answer into the caller's buffer. It starts no thread,
-//! reads and writes no file, and keeps nothing when it returns. The header is `library/fifobench.h`.
+//! Each function judges a text or events in the caller's memory, and writes its answer into the caller's buffer. It
+//! starts no thread, reads and writes no file, and keeps nothing after it returns. The header is
+//! `library/fifobench.h`.
 #![tactic(auto)]
 
 mod filling;
@@ -42,9 +43,9 @@ const INTERFACE: u32 = 1;
 /// The bits of linearizability itself.
 const LINEARIZABILITY: u32 = 0;
 
-/// What `check` answers of the text.
+/// Writes the answer of `check` about the text.
 ///
-/// Time and memory as of the command in one thread, and memory for the answer beside it.
+/// Takes the time and memory of the command in one thread, and memory for the answer.
 #[unsafe(no_mangle)]
 pub extern "C" fn fifobench_check(
     alloc: Global,
@@ -52,12 +53,13 @@ pub extern "C" fn fifobench_check(
     answer: &mut [u8],
     needed: &mut usize,
 ) -> u8
-    ensures { TellsOneOf (AnswersOrNoMemory (AnswersOf (check linearizability)) (input_of text.now)) answer.old answer.new needed.new result }
+    ensures { TellsOneOf (AnswersOrNoMemory (AnswersOf (check linearizability)) (input_of text.now))
+        answer.old answer.new needed.new result }
 {
     fifobench_check_under(alloc, text, LINEARIZABILITY, answer, needed)
 }
 
-/// What `shrink` answers of the text.
+/// Writes the answer of `shrink` about the text.
 #[unsafe(no_mangle)]
 pub extern "C" fn fifobench_shrink(
     alloc: Global,
@@ -65,12 +67,13 @@ pub extern "C" fn fifobench_shrink(
     answer: &mut [u8],
     needed: &mut usize,
 ) -> u8
-    ensures { TellsOneOf (AnswersOrNoMemory (AnswersOf (shrink linearizability)) (input_of text.now)) answer.old answer.new needed.new result }
+    ensures { TellsOneOf (AnswersOrNoMemory (AnswersOf (shrink linearizability)) (input_of text.now))
+        answer.old answer.new needed.new result }
 {
     fifobench_shrink_under(alloc, text, LINEARIZABILITY, answer, needed)
 }
 
-/// What `verify` answers of the text.
+/// Writes the answer of `verify` about the text.
 #[unsafe(no_mangle)]
 pub extern "C" fn fifobench_verify(
     alloc: Global,
@@ -78,14 +81,15 @@ pub extern "C" fn fifobench_verify(
     answer: &mut [u8],
     needed: &mut usize,
 ) -> u8
-    ensures { TellsOneOf (AnswersOrNoMemory (AnswersOf (verify linearizability)) (input_of text.now)) answer.old answer.new needed.new result }
+    ensures { TellsOneOf (AnswersOrNoMemory (AnswersOf (verify linearizability)) (input_of text.now))
+        answer.old answer.new needed.new result }
 {
     fifobench_verify_under(alloc, text, LINEARIZABILITY, answer, needed)
 }
 
-/// What `check` answers of the text under a condition: linearizability, or the weaker ones of its bits.
+/// Writes the answer of `check` about the text under a condition: linearizability, or a weaker condition by its bits.
 ///
-/// Bit 0 asks for `--local`, and bit 1 for `--weak-empty`; the others say nothing.
+/// Bit 0 stands for `--local`, and bit 1 for `--weak-empty`. The other bits are ignored.
 #[unsafe(no_mangle)]
 pub extern "C" fn fifobench_check_under(
     alloc: Global,
@@ -94,7 +98,8 @@ pub extern "C" fn fifobench_check_under(
     answer: &mut [u8],
     needed: &mut usize,
 ) -> u8
-    ensures { TellsOneOf (AnswersOrNoMemory (AnswersOf (check (condition_of condition))) (input_of text.now)) answer.old answer.new needed.new result }
+    ensures { TellsOneOf (AnswersOrNoMemory (AnswersOf (check (condition_of condition))) (input_of text.now))
+        answer.old answer.new needed.new result }
 {
     tell(
         alloc,
@@ -104,7 +109,7 @@ pub extern "C" fn fifobench_check_under(
     )
 }
 
-/// What `shrink` answers of the text under a condition, by its bits.
+/// Writes the answer of `shrink` about the text under a condition, by its bits.
 #[unsafe(no_mangle)]
 pub extern "C" fn fifobench_shrink_under(
     alloc: Global,
@@ -113,7 +118,8 @@ pub extern "C" fn fifobench_shrink_under(
     answer: &mut [u8],
     needed: &mut usize,
 ) -> u8
-    ensures { TellsOneOf (AnswersOrNoMemory (AnswersOf (shrink (condition_of condition))) (input_of text.now)) answer.old answer.new needed.new result }
+    ensures { TellsOneOf (AnswersOrNoMemory (AnswersOf (shrink (condition_of condition))) (input_of text.now))
+        answer.old answer.new needed.new result }
 {
     tell(
         alloc,
@@ -123,7 +129,7 @@ pub extern "C" fn fifobench_shrink_under(
     )
 }
 
-/// What `verify` answers of the text under a condition, by its bits.
+/// Writes the answer of `verify` about the text under a condition, by its bits.
 #[unsafe(no_mangle)]
 pub extern "C" fn fifobench_verify_under(
     alloc: Global,
@@ -132,7 +138,8 @@ pub extern "C" fn fifobench_verify_under(
     answer: &mut [u8],
     needed: &mut usize,
 ) -> u8
-    ensures { TellsOneOf (AnswersOrNoMemory (AnswersOf (verify (condition_of condition))) (input_of text.now)) answer.old answer.new needed.new result }
+    ensures { TellsOneOf (AnswersOrNoMemory (AnswersOf (verify (condition_of condition))) (input_of text.now))
+        answer.old answer.new needed.new result }
 {
     tell(
         alloc,
@@ -142,7 +149,7 @@ pub extern "C" fn fifobench_verify_under(
     )
 }
 
-/// The condition of these bits.
+/// Returns the condition of these bits.
 fn condition_of(bits: u32) -> Condition
     ensures { result ≡ condition_of bits }
 {
@@ -152,7 +159,7 @@ fn condition_of(bits: u32) -> Condition
     }
 }
 
-/// What `draw` answers of the text: an SVG document.
+/// Writes the answer of `draw` about the text, an SVG document.
 #[unsafe(no_mangle)]
 pub extern "C" fn fifobench_draw(
     alloc: Global,
@@ -160,13 +167,14 @@ pub extern "C" fn fifobench_draw(
     answer: &mut [u8],
     needed: &mut usize,
 ) -> u8
-    ensures { TellsOneOf (AnswersOrNoMemory (AnswersOf (draw (drawing_as Svg))) (input_of text.now)) answer.old answer.new needed.new result }
+    ensures { TellsOneOf (AnswersOrNoMemory (AnswersOf (draw (drawing_as Svg))) (input_of text.now))
+        answer.old answer.new needed.new result }
 {
     let options = DrawOptions::new(PictureForm::Svg);
     tell(alloc, &draw_text(alloc, text, options), answer, needed)
 }
 
-/// What `draw --text` answers of the text: lines of characters.
+/// Writes the answer of `draw --text` about the text, lines of characters.
 #[unsafe(no_mangle)]
 pub extern "C" fn fifobench_draw_text(
     alloc: Global,
@@ -174,13 +182,14 @@ pub extern "C" fn fifobench_draw_text(
     answer: &mut [u8],
     needed: &mut usize,
 ) -> u8
-    ensures { TellsOneOf (AnswersOrNoMemory (AnswersOf (draw (drawing_as Terminal))) (input_of text.now)) answer.old answer.new needed.new result }
+    ensures { TellsOneOf (AnswersOrNoMemory (AnswersOf (draw (drawing_as Terminal))) (input_of text.now))
+        answer.old answer.new needed.new result }
 {
     let options = DrawOptions::new(PictureForm::Terminal);
     tell(alloc, &draw_text(alloc, text, options), answer, needed)
 }
 
-/// What `complete` answers of the text: the completion of a history whose calls may be pending.
+/// Writes the answer of `complete` about the text: the completion of a history with pending calls.
 #[unsafe(no_mangle)]
 pub extern "C" fn fifobench_complete(
     alloc: Global,
@@ -188,12 +197,13 @@ pub extern "C" fn fifobench_complete(
     answer: &mut [u8],
     needed: &mut usize,
 ) -> u8
-    ensures { TellsOneOf (AnswersOrNoMemory (AnswersOf (complete false)) (input_of text.now)) answer.old answer.new needed.new result }
+    ensures { TellsOneOf (AnswersOrNoMemory (AnswersOf (complete false)) (input_of text.now))
+        answer.old answer.new needed.new result }
 {
     tell(alloc, &complete_text(alloc, text, false), answer, needed)
 }
 
-/// What `stats` answers of the text.
+/// Writes the answer of `stats` about the text.
 #[unsafe(no_mangle)]
 pub extern "C" fn fifobench_stats(
     alloc: Global,
@@ -201,14 +211,16 @@ pub extern "C" fn fifobench_stats(
     answer: &mut [u8],
     needed: &mut usize,
 ) -> u8
-    ensures { TellsOneOf (AnswersOrNoMemory (AnswersOf (stats false)) (input_of text.now)) answer.old answer.new needed.new result }
+    ensures { TellsOneOf (AnswersOrNoMemory (AnswersOf (stats false)) (input_of text.now))
+        answer.old answer.new needed.new result }
 {
     tell(alloc, &stats_text(alloc, text), answer, needed)
 }
 
-/// What `check` answers of the events, of a queue that is empty first.
+/// Writes the answer of `check` about the events of a queue that is empty at first.
 ///
-/// More events than a history may have are refused; then the first that is none of the six kinds, by its place from 0.
+/// It refuses more events than a history may have. After that it refuses an event that is none of the six kinds, the
+/// first one, by its place from 0.
 #[unsafe(no_mangle)]
 pub extern "C" fn fifobench_check_events(
     alloc: Global,
@@ -216,13 +228,16 @@ pub extern "C" fn fifobench_check_events(
     answer: &mut [u8],
     needed: &mut usize,
 ) -> u8
-    // Events of known kinds are judged as `check` judges a history, of a queue that is empty first.
+    // Events of known kinds are judged as `check` judges a history of a queue that is empty at first.
     ensures judged { (list : List Event) → AreEvents events.now list → length list ≤ MAX_EVENTS
-        → TellsOneOf (AnswersOrNoMemory (JudgesHistory linearizability) (from_none list)) answer.old answer.new needed.new result }
+        → TellsOneOf (AnswersOrNoMemory (JudgesHistory linearizability) (from_none list))
+        answer.old answer.new needed.new result }
     ensures unknown { (place : ℕ) → length events.now ≤ MAX_EVENTS → IsFirstUnknown events.now place
-        → Tells (bad_what_line place) 2 answer.old answer.new needed.new result ⊎ TellsAnswer memory_fault answer.old answer.new needed.new result }
+        → Tells (bad_what_line place) 2 answer.old answer.new needed.new result
+        ⊎ TellsAnswer memory_fault answer.old answer.new needed.new result }
     ensures many { MAX_EVENTS < length events.now
-        → TellsAnswer refused_limit answer.old answer.new needed.new result ⊎ TellsAnswer memory_fault answer.old answer.new needed.new result }
+        → TellsAnswer refused_limit answer.old answer.new needed.new result
+        ⊎ TellsAnswer memory_fault answer.old answer.new needed.new result }
 {
     if events.len() > MAX_EVENTS {
         return tell(alloc, &Err(Fault::Limit), answer, needed);
@@ -238,7 +253,7 @@ pub extern "C" fn fifobench_check_events(
     }
 }
 
-/// The number of this interface. It changes where a caller of an earlier one has to be compiled anew.
+/// Returns the number of this interface. It changes if callers of an earlier one have to be compiled again.
 #[unsafe(no_mangle)]
 pub extern "C" fn fifobench_interface() -> u32
     ensures { result ≡ 1 }

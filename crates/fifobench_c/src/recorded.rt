@@ -1,4 +1,4 @@
-//! Events as plain structs, and the events that they are.
+//! Events as plain structs, and their conversion.
 ghost use Rattle.std.specs.Prelude.{◌≡◌, ◌≤◌, List, [], IfErr, IfOk, length};
 ghost use Rattle.event_records.specs.declared.event.Event.{Event};
 ghost use Rattle.history_merge.specs.Gathering.{HasGathered};
@@ -8,33 +8,34 @@ use event_records::{Event, MAX_EVENTS, What};
 use history_merge::HistoryBuilder;
 use std::alloc::Global;
 
-/// An enqueue of the value was called.
+/// The call of an enqueue of the value.
 pub const CALL_ENQ: u32 = 1;
 
-/// The queue took the value.
+/// The return of a successful enqueue.
 pub const RET_ENQ: u32 = 2;
 
-/// The queue did not take the value.
+/// The return of a failed enqueue.
 pub const RET_NOT: u32 = 3;
 
-/// A dequeue was called.
+/// The call of a dequeue.
 pub const CALL_DEQ: u32 = 4;
 
-/// The queue gave the value.
+/// The return of a dequeue with the value.
 pub const RET_DEQ: u32 = 5;
 
-/// The queue was empty.
+/// The return of an empty dequeue.
 pub const RET_EMPTY: u32 = 6;
 
-/// The greatest thread that is distinguished from others. It is above the greatest of a history, and so are all above it.
+/// The greatest thread that is kept apart from others. It and all threads above it are beyond the greatest of a
+/// history.
 pub(crate) const GREATEST_TOLD: u32 = 255;
 
-/// An event as callers in C have it: any numbers may stand in it.
+/// An event as callers in C pass it, with any numbers.
 #[repr(C)]
 #[derive(Clone, Copy, Debug, PartialEq, Eq)]
 pub struct RecordedEvent {
     pub ticket: u64,
-    /// Of `CALL_ENQ` and `RET_DEQ`; else it isn't read.
+    /// The value of `CALL_ENQ` and `RET_DEQ`. Other kinds ignore it.
     pub value: u64,
     pub thread: u32,
     /// One of the six kinds, as `CALL_ENQ`.
@@ -42,7 +43,7 @@ pub struct RecordedEvent {
 }
 
 impl RecordedEvent {
-    /// The event, where its kind is known.
+    /// Returns the event, if its kind is known.
     fn event(&self) -> Option<Event>
         ensures { result ≡ event_of self.now }
     {
@@ -55,7 +56,7 @@ impl RecordedEvent {
     }
 }
 
-/// What a thread called or was answered, where the kind is known.
+/// Returns the call or the return of this kind, if the kind is known.
 fn what_in(kind: u32, value: u64) -> Option<What>
     ensures { result ≡ what_of kind value }
 {
@@ -70,10 +71,12 @@ fn what_in(kind: u32, value: u64) -> Option<What>
     }
 }
 
-/// A history builder of these events, of a queue that is empty first; or the place of the first whose kind isn't known.
+/// Returns a history builder with these events of a queue that is empty at first, or the place of the first event of
+/// unknown kind.
 pub(crate) fn gathered(alloc: Global, structs: &[RecordedEvent]) -> Result<HistoryBuilder, usize>
     requires { length structs.now ≤ MAX_EVENTS }
-    ensures events { IfOk result (λ builder. (events : List Event) × AreEvents structs.now events × HasGathered [] events builder) }
+    ensures events { IfOk result
+        (λ builder. (events : List Event) × AreEvents structs.now events × HasGathered [] events builder) }
     ensures unknown { IfErr result (IsFirstUnknown structs.now) }
 {
     let mut builder = HistoryBuilder::new(alloc, Vec::new(alloc));

@@ -14,7 +14,8 @@ const OVERTAKEN: &str =
 const ITS_VERDICT: &str = "NO VOrd\n0 1 0 enq 7\n2 3 0 enq 9\n4 5 0 deq 9\n";
 
 const ONE_MORE: &str =
-    "fifo-history 1\n0 0 call-enq 7\n1 0 ret-enq\n2 0 call-enq 9\n3 0 ret-enq\n4 0 call-deq\n5 0 ret-deq 9\n6 1 call-enq 8\n7 1 ret-not\nend 8\n";
+    "fifo-history 1\n0 0 call-enq 7\n1 0 ret-enq\n2 0 call-enq 9\n3 0 ret-enq\n4 0 call-deq\n5 0 ret-deq 9\n\
+    6 1 call-enq 8\n7 1 ret-not\nend 8\n";
 
 const SHRUNK: &str =
     "fifo-history 1\n0 0 call-enq 7\n1 0 ret-enq\n2 0 call-enq 9\n3 0 ret-enq\n4 0 call-deq\n5 0 ret-deq 9\nend 6\n\
@@ -25,7 +26,7 @@ const COUNTED: &str =
     overlapping 0\noverlapping-percent 0.0\nmost-pending 0\nmost-in-queue 0\n\
     overtakes 0\novertaken-at-most 0\n";
 
-/// Which of the functions over a text is called.
+/// One of the functions that take a text.
 #[derive(Clone, Copy)]
 enum Command {
     Check,
@@ -61,7 +62,7 @@ fn call(alloc: Global, command: Command, text: &str, answer: &mut [u8], needed: 
     }
 }
 
-/// Whether a call answers the text so, in a buffer with room for more.
+/// Returns whether a call gives this answer about the text, in a buffer with room for more.
 fn is_answered(alloc: Global, command: Command, text: &str, wanted: &str, status: u8) -> bool {
     let mut answer = [b'-'; 300];
     let mut needed = 0;
@@ -69,7 +70,7 @@ fn is_answered(alloc: Global, command: Command, text: &str, wanted: &str, status
     told == status && is_filled(&answer, needed, wanted)
 }
 
-/// Whether the buffer holds this text, and after it what was there before.
+/// Returns whether the buffer holds this text, and is unchanged after it.
 fn is_filled(answer: &[u8], needed: usize, wanted: &str) -> bool {
     needed == wanted.len()
         && answer.starts_with(wanted.as_bytes())
@@ -86,7 +87,7 @@ const EMPTY: &str = "fifo-history 1\nend 0\n";
 
 const UNSHOWN: &str = "fifo-history 1\n0 0 call-deq\n1 0 ret-empty\nend 2\nYES\n";
 
-/// Two producers' values overtake each other, and a dequeue finds the queue empty while one is in it.
+/// The values of two producers overtake each other, and a dequeue finds the queue empty while a value is in it.
 const PROMISES_LESS: &str =
     "fifo-history 1\n0 0 call-enq 7\n1 0 ret-enq\n2 1 call-enq 9\n3 1 ret-enq\n4 2 call-deq\n\
     5 2 ret-deq 9\n6 2 call-deq\n7 2 ret-empty\nend 8\n";
@@ -96,11 +97,12 @@ const EACH_ORDER: &str = "YES\n0 1 0 enq 7\n2 3 1 enq 9\n4 5 2 deq 9\n";
 const WITNESS: &str = "NO VWit\n6 7 2 empty\n0 1 0 enq 7\n";
 
 const ITS_WITNESS: &str =
-    "fifo-history 1\n0 0 call-enq 7\n1 0 ret-enq\n6 2 call-deq\n7 2 ret-empty\nend 4\nNO VWit\n6 7 2 empty\n0 1 0 enq 7\n";
+    "fifo-history 1\n0 0 call-enq 7\n1 0 ret-enq\n6 2 call-deq\n7 2 ret-empty\nend 4\n\
+    NO VWit\n6 7 2 empty\n0 1 0 enq 7\n";
 
 const OVERTAKES: &str = "NO VOrd\n0 1 0 enq 7\n2 3 1 enq 9\n4 5 2 deq 9\n";
 
-/// What is called, the text, the answer and the status.
+/// The function, the text, the answer and the status.
 static ANSWERED: [(Command, &str, &str, u8); 22] = [
     (Command::CheckUnder(0), PROMISES_LESS, OVERTAKES, 1),
     (Command::CheckUnder(1), PROMISES_LESS, WITNESS, 1),
@@ -146,8 +148,8 @@ fn answers_texts(rt: HostRuntime) {
     }
 }
 
-/// Whether a buffer of this many bytes gets the verdict if it fits, and else stays as it was. The length and the status
-/// are right either way.
+/// Returns whether a buffer of this size gets the verdict if it fits, and is unchanged otherwise. The length and the
+/// status have to be right in both cases.
 fn fills(alloc: Global, room: usize) -> Result<bool, AllocError> {
     let mut answer = Vec::from_elem(alloc, b'-', room)?;
     let mut needed = 0;
@@ -190,7 +192,7 @@ fn events_of(alloc: Global, rows: &[Row]) -> Result<Vec<RecordedEvent>, AllocErr
     Ok(events)
 }
 
-/// Whether the events are answered so, in a buffer with room for more.
+/// Returns whether the events get this answer, in a buffer with room for more.
 fn are_answered(alloc: Global, events: &[RecordedEvent], wanted: &str, status: u8) -> bool {
     let mut answer = [b'-'; 120];
     let mut needed = 0;
@@ -198,7 +200,7 @@ fn are_answered(alloc: Global, events: &[RecordedEvent], wanted: &str, status: u
     told == status && is_filled(&answer, needed, wanted)
 }
 
-/// Whether the events of the rows are.
+/// Returns whether the events of the rows get this answer.
 fn are_rows_answered(
     alloc: Global,
     rows: &[Row],
@@ -209,7 +211,7 @@ fn are_rows_answered(
     Ok(are_answered(alloc, &events, wanted, status))
 }
 
-/// One event of each kind. The value of an event that has none isn't read.
+/// One event of each kind. The value of an event that has none is ignored.
 const OF_EACH_KIND: &[Row] = &[
     (0, 0, CALL_ENQ, 7),
     (1, 0, RET_ENQ, 5),
@@ -255,7 +257,7 @@ static JUDGED: [(&[Row], &str, u8); 11] = [
         "REFUSED TicketOrder 1\n",
         2,
     ),
-    // An unknown kind comes before all else.
+    // An unknown kind comes before all other faults.
     (&[(0, 64, 1, 0), (1, 0, 0, 0)], "REFUSED BadWhat 1\n", 2),
     (
         &[(0, 0, CALL_DEQ, 0), (1, 0, 7, 0), (2, 0, 8, 0)],
@@ -276,7 +278,8 @@ fn judges_events(rt: HostRuntime) -> Result<(), Fail> {
     Ok(())
 }
 
-/// Whether the most events and one more are refused for their number, and the most of them for the kind of the first.
+/// Returns whether one event more than the maximum is refused because of the number, and the maximum number because
+/// of the kind of the first.
 fn refuses_one_more(alloc: Global) -> Result<bool, AllocError> {
     let none = RecordedEvent {
         ticket: 0,

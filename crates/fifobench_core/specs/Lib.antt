@@ -1,2 +1,2 @@
--- What a queue may answer, for the clauses of its author.
+-- The answers that a queue may give, for the clauses of its author.
 pub use Rattle.queue_interface.specs.Answers

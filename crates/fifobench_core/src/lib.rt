@@ -1,7 +1,7 @@
-//! What the author of a queue needs, in one crate: questions and answers, plans and runs, histories and verdicts, and
-//! their texts.
+//! Everything that the author of a queue needs, in one crate: questions and answers, plans and runs, histories and
+//! verdicts, and their texts.
 //!
-//! It has no code of its own. `own_queue` and `racy_queue` are whole programs over it.
+//! The crate has no code of its own. `own_queue` and `racy_queue` are whole programs that use it.
 #![tactic(auto)]
 
 pub use drawing::{MOST_DRAWN, count_of_lines, drawn_operations, scene_of, terminal_picture};

@@ -57,7 +57,7 @@ pub legal_later : (n : ℕ) (queue : List ℕ) (operations order : List Operatio
 legal_later n queue operations order =
     legal_moved (later_by n) queue operations order (map_map (later_by n) (λ o. o.kind)) (λ x y precedes. omega (arith, precedes))
 
--- a legal order of operations that are moved later is one moved later
+-- a linearization of operations moved later is a linearization moved later
 pub legal_earlier : (n : ℕ) (queue : List ℕ) (operations found : List Operation) → IsLegalOrder queue (map (later_by n) operations) found
     → (order : List Operation) × (found ≡ map (later_by n) order) × IsLegalOrder queue operations order
 legal_earlier n queue operations found legal = (

@@ -71,7 +71,8 @@ pub fn history_from(
 ) -> Result<History, HistoryFault>
     requires few_initial { vec_len initial ≤ MAX_INITIAL }
     requires few_events { length events.now ≤ MAX_EVENTS }
-    ensures outcome { MatchResult result (λ h. (h.initial ≡ initial.items) × (h.events ≡ events.now)) (IsFirstFault initial.items events.now) }
+    ensures outcome { MatchResult result (λ h. (h.initial ≡ initial.items) × (h.events ≡ events.now))
+        (IsFirstFault initial.items events.now) }
     ensures complete { IfOk result (λ h. IsCompleteFrom h.initial h.events) }
     ensures refused { IfErr result (λ fault. IsCompleteFrom initial.items events.now → fault ≡ HistoryFault.Memory) }
 {

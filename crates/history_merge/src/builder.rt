@@ -1,5 +1,6 @@
 //! The builder of a history whose queue holds some values first.
-ghost use Rattle.std.specs.Prelude.{◌≡◌, ◌<◌, ◌≤◌, ℕ, List, [], ◌∷◌, ◌++◌, None, IfErr, IfOk, IfSome, IsErr, MatchResult, length, vec_len};
+ghost use Rattle.std.specs.Prelude.{◌≡◌, ◌<◌, ◌≤◌, ℕ, List, [], ◌∷◌, ◌++◌, None, IfErr};
+ghost use Rattle.std.specs.Prelude.{IfOk, IfSome, IsErr, MatchResult, length, vec_len};
 ghost use Rattle.event_records.specs.declared.event.Event.{Event};
 ghost use Rattle.event_records.specs.declared.limits.TheConstants.{MAX_EVENTS, MAX_INITIAL};
 ghost use Rattle.history_merge.specs.Clashes.{IsClash, fault_of};
@@ -72,9 +73,11 @@ impl HistoryBuilder {
     #[tactic(auto, using(std::proofs::lemmas::Bool::cases_lt))]
     #[inline(always)]
     pub fn add(&mut self, event: Event)
-        ensures added { (initial : List ℕ) (events : List Event) → HasGathered initial events self.old → length events < MAX_EVENTS
+        ensures added { (initial : List ℕ) (events : List Event) → HasGathered initial events self.old
+            → length events < MAX_EVENTS
             → HasGathered initial (events ++ event ∷ []) self.new }
-        ensures full { (initial : List ℕ) (events : List Event) → HasGathered initial events self.old → length events ≡ MAX_EVENTS
+        ensures full { (initial : List ℕ) (events : List Event) → HasGathered initial events self.old
+            → length events ≡ MAX_EVENTS
             → HasGathered initial events self.new × KeepsFault self.new }
     {
         self.gathering.add(event);
@@ -86,10 +89,12 @@ impl HistoryBuilder {
     ///
     /// Takes O(n) time if there is a fault, otherwise O(1).
     pub fn clash(&self) -> Option<Clash>
-        ensures clash { (initial : List ℕ) (events : List Event) → HasGathered initial events self.now → IfSome result (IsClash initial events) }
+        ensures clash { (initial : List ℕ) (events : List Event) → HasGathered initial events self.now
+            → IfSome result (IsClash initial events) }
         ensures fault { (initial : List ℕ) (events : List Event) → HasGathered initial events self.now
             → IfSome result (λ clash. IsFirstFault initial events (fault_of clash)) }
-        ensures none { (initial : List ℕ) (events : List Event) → HasGathered initial events self.now → IsCompleteFrom initial events → result ≡ None }
+        ensures none { (initial : List ℕ) (events : List Event) → HasGathered initial events self.now
+            → IsCompleteFrom initial events → result ≡ None }
     {
         self.gathering.clash()
     }
@@ -104,7 +109,8 @@ impl HistoryBuilder {
     #[tactic(auto, using(crate::proofs::Faults::complete_has_no_fault))]
     pub fn finish(self) -> Result<History, HistoryFault>
         ensures outcome { (initial : List ℕ) (events : List Event) → HasGathered initial events self
-            → MatchResult result (λ whole. (whole.initial ≡ initial) × (whole.events ≡ events)) (IsFirstFault initial events) }
+            → MatchResult result (λ whole. (whole.initial ≡ initial) × (whole.events ≡ events))
+            (IsFirstFault initial events) }
         ensures complete { IfOk result (λ whole. IsCompleteFrom whole.initial whole.events) }
         ensures refused { (initial : List ℕ) (events : List Event) → HasGathered initial events self
             → IfErr result (λ fault. IsCompleteFrom initial events → fault ≡ HistoryFault.Memory) }

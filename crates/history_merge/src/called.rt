@@ -1,5 +1,6 @@
 //! The values known so far: the initial ones and those that were called to be enqueued.
-ghost use Rattle.std.specs.Prelude.{◌≡◌, ◌++◌, ◌∷◌, [], ℕ, List, ◌||◌, ◌&&◌, ◌+◌, ◌<◌, false, nat_eq, slice_index_or, IfErr, IfOk, OnOk};
+ghost use Rattle.std.specs.Prelude.{◌≡◌, ◌++◌, ◌∷◌, [], ℕ, List, ◌||◌, ◌&&◌, ◌+◌, ◌<◌};
+ghost use Rattle.std.specs.Prelude.{false, nat_eq, slice_index_or, IfErr, IfOk, OnOk};
 ghost use Rattle.event_records.specs.declared.limits.TheConstants.{MAX_THREADS};
 ghost use Rattle.history_merge.specs.declared.called.TheConstants.{LOOSE};
 ghost use Rattle.std.specs.List.{cons_option};

@@ -106,8 +106,10 @@ pub(crate) fn first_event(forming: &Forming, sought: Sought) -> Option<Placed>
 #[inline(never)]
 pub(crate) fn clash_of(fault: HistoryFault, later: Placed, forming: &Forming) -> Option<Clash>
     requires { AreOfRun forming.now.timeline.operations }
-    ensures { (events : List Event) → HasFormed events forming.now → IsRunOf events forming.now.timeline.operations → length events ≤ MAX_EVENTS
-        → later.place ≡ length events → IfSome result (IsClash forming.now.timeline.initial (events ++ later.event ∷ [])) }
+    ensures { (events : List Event) → HasFormed events forming.now → IsRunOf events forming.now.timeline.operations
+        → length events ≤ MAX_EVENTS
+        → later.place ≡ length events
+        → IfSome result (IsClash forming.now.timeline.initial (events ++ later.event ∷ [])) }
 {
     match fault {
         HistoryFault::TicketOrder(_) => {

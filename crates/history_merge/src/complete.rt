@@ -42,7 +42,8 @@ impl History {
     /// Makes the history of this timeline.
     #[tactic(auto, using(crate::proofs::Formed::kept_of_formed))]
     pub(crate) fn new(timeline: Timeline) -> History
-        requires formed { (events : List Event) × IsFormedOf events timeline.operations × IsCompleteFrom timeline.initial events
+        requires formed { (events : List Event) × IsFormedOf events timeline.operations
+            × IsCompleteFrom timeline.initial events
             × (length events ≤ MAX_EVENTS) }
         ensures initial { result.initial ≡ timeline.initial }
         ensures events { (events : List Event) → IsFormedOf events timeline.operations → result.events ≡ events }
@@ -98,7 +99,8 @@ impl History {
     ///
     /// This is for passes over both, and takes no memory.
     pub fn by_time(&self) -> &[PackedOperation]
-        ensures by_time { result.now ≡ initial_enqueues self.now.initial ++ map (later_by ORIGIN) (operations_of self.now.events) }
+        ensures by_time { result.now ≡ initial_enqueues self.now.initial
+            ++ map (later_by ORIGIN) (operations_of self.now.events) }
         ensures complete { AreComplete result.now }
         ensures from { IsCompleteFrom self.now.initial self.now.events }
         ensures few { length result.now ≤ MAX_EVENTS + MAX_INITIAL }

@@ -143,7 +143,8 @@ fn call_before<'a>(
     by_call: &Operations<'a>,
     due: Option<Event>,
 ) -> Option<(Operation, Operations<'a>)>
-    ensures { MatchOption result ((o : Operation) (rest : List Operation) → by_call.now ≡ o ∷ rest → comes_by_ticket due o.call ≡ true)
+    ensures { MatchOption result
+        ((o : Operation) (rest : List Operation) → by_call.now ≡ o ∷ rest → comes_by_ticket due o.call ≡ true)
         (λ found. (by_call.now ≡ found.0 ∷ found.1) × (comes_by_ticket due found.0.call ≡ false)) }
 {
     let mut others = by_call.iter();

@@ -1,5 +1,6 @@
 //! The operations of the events so far, while more may come.
-ghost use Rattle.std.specs.Prelude.{◌≡◌, ◌≤◌, ◌<◌, ◌||◌, true, false, ℕ, List, [], ◌∷◌, ◌++◌, MatchOption, OnErr, OnOk, length};
+ghost use Rattle.std.specs.Prelude.{◌≡◌, ◌≤◌, ◌<◌, ◌||◌, true, false, ℕ, List, []};
+ghost use Rattle.std.specs.Prelude.{◌∷◌, ◌++◌, MatchOption, OnErr, OnOk, length};
 ghost use Rattle.event_records.specs.declared.event.Event.{Event};
 ghost use Rattle.event_records.specs.Turns.{is_call};
 ghost use Rattle.history_merge.specs.Faults.{breaks_ticket_order, calls_initial, pending_call, repeats_value};
@@ -99,7 +100,8 @@ impl Forming {
     /// Returns whether the ticket is out of range, or not above the last one.
     #[inline(always)]
     fn breaks_order(&self, ticket: u64) -> bool
-        ensures order { (events : List Event) (e : Event) → HasFormed events self.now → e.ticket ≡ ticket → result ≡ breaks_ticket_order events e }
+        ensures order { (events : List Event) (e : Event) → HasFormed events self.now → e.ticket ≡ ticket
+            → result ≡ breaks_ticket_order events e }
         ensures in_range { result ≡ false → ticket ≤ MAX_TICKET }
     {
         ticket > MAX_TICKET || ticket < self.least_ticket
@@ -110,7 +112,8 @@ impl Forming {
     fn call(&mut self, event: Event, place: usize, repeats: bool) -> Result<(), HistoryFault>
         requires thread { event.thread ≤ MAX_THREAD }
         requires ticket { event.ticket ≤ MAX_TICKET }
-        ensures taken { (initial : List ℕ) (events : List Event) → HasFormed events self.old → breaks_ticket_order events event ≡ false
+        ensures taken { (initial : List ℕ) (events : List Event) → HasFormed events self.old
+            → breaks_ticket_order events event ≡ false
             → is_call event.what ≡ true → repeats ≡ (repeats_value events event || calls_initial initial event)
             → IsTaken initial events event place result self.new }
         ensures initial { self.new.timeline.initial ≡ self.old.timeline.initial }
@@ -139,7 +142,8 @@ impl Forming {
     fn answer(&mut self, event: Event, place: usize) -> Result<(), HistoryFault>
         requires thread { event.thread ≤ MAX_THREAD }
         requires ticket { event.ticket ≤ MAX_TICKET }
-        ensures taken { (initial : List ℕ) (events : List Event) → HasFormed events self.old → breaks_ticket_order events event ≡ false
+        ensures taken { (initial : List ℕ) (events : List Event) → HasFormed events self.old
+            → breaks_ticket_order events event ≡ false
             → is_call event.what ≡ false → IsTaken initial events event place result self.new }
         ensures initial { self.new.timeline.initial ≡ self.old.timeline.initial }
     {
@@ -175,7 +179,8 @@ impl Forming {
     /// Returns the pending call with the least ticket.
     #[tactic(auto, using(crate::proofs::Turns::least_pending))]
     pub(crate) fn least_pending(&self) -> Option<Event>
-        ensures { (events : List Event) → HasFormed events self.now → MatchOption result (NothingPending events) (IsLeastPendingCall events) }
+        ensures { (events : List Event) → HasFormed events self.now
+            → MatchOption result (NothingPending events) (IsLeastPendingCall events) }
     {
         let mut least: Option<Event> = None;
         for thread in 0..=MAX_THREAD {

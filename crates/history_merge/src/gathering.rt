@@ -57,9 +57,11 @@ impl Gathering {
     #[inline(always)]
     pub(crate) fn add(&mut self, event: Event)
         requires { (initial : List ℕ) × (events : List Event) × HasGathered initial events self.old }
-        ensures added { (initial : List ℕ) (events : List Event) → HasGathered initial events self.old → length events < MAX_EVENTS
+        ensures added { (initial : List ℕ) (events : List Event) → HasGathered initial events self.old
+            → length events < MAX_EVENTS
             → HasGathered initial (events ++ event ∷ []) self.new }
-        ensures full { (initial : List ℕ) (events : List Event) → HasGathered initial events self.old → length events ≡ MAX_EVENTS
+        ensures full { (initial : List ℕ) (events : List Event) → HasGathered initial events self.old
+            → length events ≡ MAX_EVENTS
             → HasGathered initial events self.new × IsSome self.new.fault }
     {
         if self.fault.is_some() {
@@ -79,7 +81,8 @@ impl Gathering {
     /// Judges an event that comes after events without a fault, and adds it if it has none.
     #[inline(always)]
     fn follow(&mut self, event: Event) -> Result<(), HistoryFault>
-        ensures followed { (initial : List ℕ) (events : List Event) → IsForming initial events self.old → length events < MAX_EVENTS
+        ensures followed { (initial : List ℕ) (events : List Event) → IsForming initial events self.old
+            → length events < MAX_EVENTS
             → IsFollowed initial events event result self.new }
         ensures kept { (self.new.fault ≡ self.old.fault) × (self.new.clash ≡ self.old.clash) }
     {
@@ -94,7 +97,8 @@ impl Gathering {
     #[inline(never)]
     fn keep(&mut self, fault: HistoryFault, event: Event)
         requires { AreOfRun self.old.forming.timeline.operations }
-        ensures clash { (events : List Event) → HasFormed events self.old.forming → IsRunOf events self.old.forming.timeline.operations
+        ensures clash { (events : List Event) → HasFormed events self.old.forming
+            → IsRunOf events self.old.forming.timeline.operations
             → length events < MAX_EVENTS → self.old.count ≡ length events
             → IfSome self.new.clash (Explains self.old.forming.timeline.initial (events ++ event ∷ []) (Some fault)) }
         ensures fault { self.new.fault ≡ Some fault }
@@ -114,7 +118,8 @@ impl Gathering {
     /// Returns the events or values that contradict each other at the first fault. Takes O(n) time if there is one.
     pub(crate) fn clash(&self) -> Option<Clash>
         requires { (initial : List ℕ) × (events : List Event) × HasGathered initial events self.now }
-        ensures clash { (initial : List ℕ) (events : List Event) → HasGathered initial events self.now → IfSome result (IsClash initial events) }
+        ensures clash { (initial : List ℕ) (events : List Event) → HasGathered initial events self.now
+            → IfSome result (IsClash initial events) }
         ensures fault { (initial : List ℕ) (events : List Event) → HasGathered initial events self.now
             → IfSome result (λ clash. IsFirstFault initial events (fault_of clash)) }
     {
@@ -130,7 +135,8 @@ impl Gathering {
     pub(crate) fn finish(self) -> Result<History, HistoryFault>
         requires { (initial : List ℕ) × (events : List Event) × HasGathered initial events self }
         ensures outcome { (initial : List ℕ) (events : List Event) → HasGathered initial events self
-            → MatchResult result (λ whole. (whole.initial ≡ initial) × (whole.events ≡ events)) (IsFirstFault initial events) }
+            → MatchResult result (λ whole. (whole.initial ≡ initial) × (whole.events ≡ events))
+            (IsFirstFault initial events) }
         ensures kept { IsSome self.fault → IsErr result }
     {
         let Gathering {

@@ -4,7 +4,7 @@ ghost use Rattle.event_records.specs.declared.limits.TheConstants.{MAX_TICKET, O
 use event_records::{Event, MAX_TICKET, ORIGIN, What};
 use std::marker::Model;
 
-/// The kind of an operation: what was called, and how it returned.
+/// The kind of an operation: its call and its result.
 #[derive(Clone, Copy, Debug, PartialEq, Eq)]
 pub enum OpKind {
     /// A successful enqueue of this value.
@@ -68,7 +68,7 @@ pub struct Operation {
     pub ret: u64,
     /// The number of the thread.
     pub thread: u8,
-    /// What was called, and how it returned.
+    /// The call and its result.
     pub kind: OpKind,
 }
 

@@ -41,8 +41,8 @@ impl Model for PackedOperation {
     ghost use Rattle.std.specs.Prelude.{◌/◌, ◌%◌};
     ghost use Rattle.history_merge.specs.declared.operation.Operation.{Operation};
     ghost use Rattle.history_merge.specs.declared.packed.TheConstants.{LOWER};
-    ghost use Rattle.history_merge.specs.Inner.Packed.{IsPacked, back_lower, back_lower_value, back_tag, back_upper, back_upper_value};
-    ghost use Rattle.history_merge.specs.Inner.Packed.{joined, kind_by, tag_of, value_of};
+    ghost use Rattle.history_merge.specs.Inner.Packed.{IsPacked, back_lower, back_lower_value, back_tag, back_upper};
+    ghost use Rattle.history_merge.specs.Inner.Packed.{back_upper_value, joined, kind_by, tag_of, value_of};
 
     ghost Value = { Operation };
 

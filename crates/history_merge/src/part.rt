@@ -22,7 +22,8 @@ pub fn part_at(
     requires few_initial { vec_len initial ≤ MAX_INITIAL }
     requires part { (events : List Event) × IsPartAt history.now initial.items places.now events }
     ensures initial { IfOk result (λ part. part.initial ≡ initial.items) }
-    ensures events { (events : List Event) → IsPartAt history.now initial.items places.now events → IfOk result (λ part. part.events ≡ events) }
+    ensures events { (events : List Event) → IsPartAt history.now initial.items places.now events
+        → IfOk result (λ part. part.events ≡ events) }
 {
     let mut timeline = Timeline::with_capacity(alloc, initial, places.len())?;
     for place in places {

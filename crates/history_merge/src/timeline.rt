@@ -1,5 +1,6 @@
 //! The operations of a history on the scale of times.
-ghost use Rattle.std.specs.Prelude.{◌≡◌, ◌≤◌, ◌+◌, ◌-◌, ◌<◌, ◌++◌, ◌∷◌, [], IfOk, OnErr, OnOk, Some, length, map, slice_get, slice_set, vec_len};
+ghost use Rattle.std.specs.Prelude.{◌≡◌, ◌≤◌, ◌+◌, ◌-◌, ◌<◌, ◌++◌, ◌∷◌, [], IfOk, OnErr};
+ghost use Rattle.std.specs.Prelude.{OnOk, Some, length, map, slice_get, slice_set, vec_len};
 ghost use Rattle.event_records.specs.declared.limits.TheConstants.{MAX_INITIAL, MAX_TICKET, ORIGIN};
 ghost use Rattle.history_merge.specs.declared.operation.Operation.{Operation};
 ghost use Rattle.history_merge.specs.Initial.{enqueue_at, later_by};
@@ -29,7 +30,10 @@ impl Model for Timeline {
 
     ghost Value = { Contents };
 
-    ghost view = { λ t. record { initial = t.initial.items; operations = operations_on (length t.initial.items) t.all.items } };
+    ghost view = { λ t. record {
+      initial = t.initial.items;
+      operations = operations_on (length t.initial.items) t.all.items;
+    } };
 
     ghost invariant = { λ t. IsTimeline t.initial.items t.all.items };
 }

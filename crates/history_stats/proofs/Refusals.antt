@@ -144,7 +144,8 @@ module _ (first : ℕ) (arrivals departures heights : List ℕ) (up : IsNonDecre
       which : (most < start) ⊎ (start ≤ most) → (above_from < above_to) ⊎ (above_to ≤ above_from) → (most < start) ⊎ (above_from < above_to)
       which (inl more) _ = inl more
       which (inr le) (inl more) = inr more
-      which (inr le) (inr none) = absurd (neither (nat_le start most) (nat_eq above_from above_to) (le-leb start most le) (eq-eqb above_from above_to (omega (arith, rises, none))) is)
+      which (inr le) (inr none) = absurd (neither (nat_le start most) (nat_eq above_from above_to)
+          (le-leb start most le) (eq-eqb above_from above_to (omega (arith, rises, none))) is)
         where
           neither : (a b : Bool) → a ≡ true → b ≡ true → (a && b) ≡ false → ⊥
           neither true true x y z = absurd (cc)

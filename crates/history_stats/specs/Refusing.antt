@@ -1,4 +1,4 @@
--- How full the queue may have been during failed enqueues.
+-- The number of values that the queue may have held during failed enqueues.
 use Rattle.std.specs.Prelude.{◌≡◌, ℕ, ◌<◌, ◌≤◌, Bool, List, ◌++◌, not, ◌&&◌, nat_lt, count_by, filter_map, Contains, Option, None, true, if◌then◌else◌}
 use Rattle.std.specs.List.{list_any}
 use Rattle.history_merge.specs.Initial.{HistoryView}

@@ -5,7 +5,7 @@ ghost use Rattle.history_stats.specs.AtOnce.{IsMost};
 ghost use Rattle.history_stats.specs.Inner.AtOnce.{count_before};
 
 /// Returns the maximum number present at one gap: `first` are present from the beginning, one comes at each ticket of
-/// `arrivals`, and one goes at each of `departures`.
+/// `arrivals`, and one leaves at each of `departures`.
 ///
 /// Takes O(n log n) time for n tickets, and no memory.
 pub(crate) fn most_of(first: usize, mut arrivals: Vec<u64>, mut departures: Vec<u64>) -> usize

@@ -2,7 +2,8 @@
 ghost use Rattle.std.specs.Prelude.{◌≡◌, ◌<◌, ◌≤◌, ℕ, All, count_by, false, length, nat_eq, not, slice_index_or};
 ghost use Rattle.std.specs.List.{zip};
 ghost use Rattle.event_records.specs.declared.limits.TheConstants.{MAX_THREAD, MAX_THREADS};
-ghost use Rattle.history_stats.specs.Counts.{change_count, has_event, is_dequeued, is_empty, is_enqueued, is_refused, kind_count, thread_count};
+ghost use Rattle.history_stats.specs.Counts.{change_count, has_event, is_dequeued, is_empty};
+ghost use Rattle.history_stats.specs.Counts.{is_enqueued, is_refused, kind_count, thread_count};
 
 use event_records::{Event, MAX_THREADS};
 use history_merge::{OpKind, Operations};
@@ -18,7 +19,8 @@ pub(crate) fn thread_count(events: &[Event]) -> usize
 /// Returns for each possible thread whether it has an event.
 fn threads_in(events: &[Event]) -> [bool; MAX_THREADS]
     requires { All (λ e. e.thread ≤ MAX_THREAD) events.now }
-    ensures marks { (thread : ℕ) → thread < MAX_THREADS → slice_index_or result thread false ≡ has_event events.now thread }
+    ensures marks { (thread : ℕ) → thread < MAX_THREADS
+        → slice_index_or result thread false ≡ has_event events.now thread }
     ensures each { length result ≡ MAX_THREADS }
 {
     let mut seen = [false; MAX_THREADS];

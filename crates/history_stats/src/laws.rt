@@ -5,5 +5,6 @@ ghost use Rattle.history_stats.specs.Statistics.{AreStatisticsOf};
 
 /// Proves that a history has only one statistics. The law is the contract; the body is empty.
 pub fn a_history_has_one_statistics()
-    ensures { (history : HistoryView) (a b : Statistics) → AreStatisticsOf history a → AreStatisticsOf history b → a ≡ b }
+    ensures { (history : HistoryView) (a b : Statistics) → AreStatisticsOf history a
+        → AreStatisticsOf history b → a ≡ b }
 {}

@@ -51,7 +51,8 @@ fn overlaps_another(
 /// Returns whether one of some operations returns at `ticket` or later, given whether there are any and their last
 /// return.
 fn returns_from(are_any: bool, last_return: u64, ticket: u64) -> bool
-    ensures { (operations : List Operation) → are_any ≡ nat_lt 0 (length operations) → IsLastReturn operations last_return
+    ensures { (operations : List Operation) → are_any ≡ nat_lt 0 (length operations)
+        → IsLastReturn operations last_return
         → result ≡ list_any (λ o. nat_le ticket o.ret) operations }
 {
     are_any && ticket <= last_return

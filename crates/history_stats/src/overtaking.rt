@@ -1,5 +1,6 @@
 //! Dequeues that certainly overtook values.
-ghost use Rattle.std.specs.Prelude.{◌≡◌, ◌≤◌, ◌<◌, ◌^◌, ℕ, All, IfOk, IsPermutation, List, count_by, filter_map, length, map, nat_lt, take};
+ghost use Rattle.std.specs.Prelude.{◌≡◌, ◌≤◌, ◌<◌, ◌^◌, ℕ, All, IfOk, IsPermutation, List};
+ghost use Rattle.std.specs.Prelude.{count_by, filter_map, length, map, nat_lt, take};
 ghost use Rattle.std.specs.List.Sorted.{IsNonDecreasing, IsNonDecreasingBy};
 ghost use Rattle.history_stats.specs.Overtaking.{greatest, overtakings};
 ghost use Rattle.history_stats.specs.Inner.Overtaking.{AreTallied, overtaking_among};
@@ -101,7 +102,8 @@ fn put_before(tally: &mut Tally, stays: &[Stay], place: usize, ticket: u64) -> u
     requires place { place ≤ count_by (λ s. nat_lt s.put ticket) stays.now }
     requires tallied { (limit : ℕ) × AreTallied limit stays.now place tally.old.levels.items }
     ensures put { result ≡ count_by (λ s. nat_lt s.put ticket) stays.now }
-    ensures tallied { (limit : ℕ) → AreTallied limit stays.now place tally.old.levels.items → AreTallied limit stays.now result tally.new.levels.items }
+    ensures tallied { (limit : ℕ) → AreTallied limit stays.now place tally.old.levels.items
+        → AreTallied limit stays.now result tally.new.levels.items }
 {
     let mut put = place;
     while put < stays.len() && stays[put].put < ticket {
@@ -114,9 +116,12 @@ fn put_before(tally: &mut Tally, stays: &[Stay], place: usize, ticket: u64) -> u
 /// Returns the overtaking of a dequeue, if it overtook a value. The first `put` stays are tallied.
 fn overtaking_of(tally: &Tally, put: usize, calls: &[u64], taking: Taking) -> Option<Overtaking>
     requires in_order { IsNonDecreasing calls.now }
-    requires tallied { (stays : List Stay) × AreTallied (length calls.now) stays put tally.now.levels.items × (put ≤ length stays) }
-    ensures { (stays : List Stay) → AreTallied (length calls.now) stays put tally.now.levels.items → IsNonDecreasingBy (λ s. s.put) stays
-        → put ≡ count_by (λ s. nat_lt s.put taking.enqueue_call) stays → result ≡ overtaking_among calls.now stays taking }
+    requires tallied { (stays : List Stay) × AreTallied (length calls.now) stays put tally.now.levels.items
+        × (put ≤ length stays) }
+    ensures { (stays : List Stay) → AreTallied (length calls.now) stays put tally.now.levels.items
+        → IsNonDecreasingBy (λ s. s.put) stays
+        → put ≡ count_by (λ s. nat_lt s.put taking.enqueue_call) stays
+        → result ≡ overtaking_among calls.now stays taking }
 {
     let count = put - tally.count_below(count_before(calls, taking.ret));
     if count == 0 {

@@ -23,7 +23,8 @@ pub(crate) fn most_queued(
 ) -> Result<usize, AllocError>
     requires few_initial { length initial.now ≤ MAX_INITIAL }
     requires few { length operations.now ≤ MAX_EVENTS }
-    ensures { IfOk result (IsMost (λ gap. stay_count gap operations.now (initial.now ++ values_put_before gap operations.now))) }
+    ensures { IfOk result
+        (IsMost (λ gap. stay_count gap operations.now (initial.now ++ values_put_before gap operations.now))) }
 {
     let takes = first_takes(alloc, operations)?;
     let mut arrivals = Vec::new(alloc);
@@ -52,7 +53,8 @@ pub(crate) fn keep_least(
     value: u64,
     ticket: u64,
 ) -> Result<(), AllocError>
-    ensures { OnOk result ((gap v : ℕ) → is_kept_before gap kept.new v ≡ (is_kept_before gap kept.old v || (v == value && nat_lt ticket gap))) }
+    ensures { OnOk result ((gap v : ℕ) → is_kept_before gap kept.new v
+        ≡ (is_kept_before gap kept.old v || (v == value && nat_lt ticket gap))) }
 {
     let least = match kept.get(&value) {
         Some(earlier) => ticket.min(*earlier),
@@ -75,7 +77,8 @@ pub(crate) fn add_initial(
     values: &[u64],
     takes: &BTreeMap<u64, u64>,
 ) -> Result<(), AllocError>
-    ensures { OnOk result ((gap : ℕ) → count_by (λ v. not (is_kept_before gap takes.now v)) values.now + count_before gap departures.new.items
+    ensures { OnOk result ((gap : ℕ) → count_by (λ v. not (is_kept_before gap takes.now v)) values.now
+        + count_before gap departures.new.items
         ≡ length values.now + count_before gap departures.old.items) }
 {
     for value in values {
@@ -102,8 +105,10 @@ fn add_enqueued(
     operations: &Operations<'_>,
     takes: &BTreeMap<u64, u64>,
 ) -> Result<(), AllocError>
-    ensures stays { OnOk result ((gap : ℕ) → count_by (λ v. not (is_kept_before gap takes.now v)) (values_put_before gap operations.now)
-        + count_before gap departures.new.items + count_before gap arrivals.old.items ≡ count_before gap arrivals.new.items + count_before gap departures.old.items) }
+    ensures stays { OnOk result
+        ((gap : ℕ) → count_by (λ v. not (is_kept_before gap takes.now v)) (values_put_before gap operations.now)
+        + count_before gap departures.new.items + count_before gap arrivals.old.items
+        ≡ count_before gap arrivals.new.items + count_before gap departures.old.items) }
     ensures few { OnOk result (vec_len arrivals.new ≤ vec_len arrivals.old + length operations.now) }
 {
     for operation in operations.iter() {
@@ -119,8 +124,10 @@ fn add_one(
     operation: Operation,
     takes: &BTreeMap<u64, u64>,
 ) -> Result<(), AllocError>
-    ensures stays { OnOk result ((gap : ℕ) → count_by (λ v. not (is_kept_before gap takes.now v)) (values_put_before gap (operation ∷ []))
-        + count_before gap departures.new.items + count_before gap arrivals.old.items ≡ count_before gap arrivals.new.items + count_before gap departures.old.items) }
+    ensures stays { OnOk result
+        ((gap : ℕ) → count_by (λ v. not (is_kept_before gap takes.now v)) (values_put_before gap (operation ∷ []))
+        + count_before gap departures.new.items + count_before gap arrivals.old.items
+        ≡ count_before gap arrivals.new.items + count_before gap departures.old.items) }
     ensures few { OnOk result (vec_len arrivals.new ≤ vec_len arrivals.old + 1) }
 {
     match operation.kind {
@@ -142,8 +149,10 @@ pub(crate) fn add_stay(
     put: u64,
     take: Option<u64>,
 ) -> Result<(), AllocError>
-    ensures stays { OnOk result ((gap : ℕ) → (if nat_lt put gap && not (option_map_or (λ t. nat_lt t gap) take false) then 1 else 0)
-        + count_before gap departures.new.items + count_before gap arrivals.old.items ≡ count_before gap arrivals.new.items + count_before gap departures.old.items) }
+    ensures stays { OnOk result
+        ((gap : ℕ) → (if nat_lt put gap && not (option_map_or (λ t. nat_lt t gap) take false) then 1 else 0)
+        + count_before gap departures.new.items + count_before gap arrivals.old.items
+        ≡ count_before gap arrivals.new.items + count_before gap departures.old.items) }
     ensures few { OnOk result (vec_len arrivals.new ≤ vec_len arrivals.old + 1) }
 {
     arrivals.push(put)?;

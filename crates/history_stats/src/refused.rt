@@ -1,12 +1,15 @@
-//! How full the queue may have been during failed enqueues.
-ghost use Rattle.std.specs.Prelude.{◌≡◌, ◌+◌, ◌-◌, ◌<◌, ◌≤◌, ◌++◌, ◌∷◌, ◌^◌, [], ℕ, All, IfOk, List, MatchOption, OnOk, count_by, false, filter_map, length};
-ghost use Rattle.std.specs.Prelude.{nat_lt, not, slice_index_or, take, true, vec_len};
+//! The number of values that the queue may have held during failed enqueues.
+ghost use Rattle.std.specs.Prelude.{◌≡◌, ◌+◌, ◌-◌, ◌<◌, ◌≤◌, ◌++◌, ◌∷◌, ◌^◌, [], ℕ, All, IfOk};
+ghost use Rattle.std.specs.Prelude.{List, MatchOption, OnOk, count_by, false, filter_map};
+ghost use Rattle.std.specs.Prelude.{length, nat_lt, not, slice_index_or, take, true, vec_len};
 ghost use Rattle.std.specs.List.{list_any};
 ghost use Rattle.std.specs.List.Sorted.{IsNonDecreasing};
 ghost use Rattle.event_records.specs.declared.limits.TheConstants.{MAX_EVENTS, MAX_INITIAL};
-ghost use Rattle.history_stats.specs.Refusing.{IsRefusedAt, NoRefusal, is_gone_before, left_count, values_called_before};
+ghost use Rattle.history_stats.specs.Refusing.{IsRefusedAt, NoRefusal, is_gone_before};
+ghost use Rattle.history_stats.specs.Refusing.{left_count, values_called_before};
 ghost use Rattle.history_stats.specs.Inner.AtOnce.{count_before, is_kept_before};
-ghost use Rattle.history_stats.specs.Inner.Refusing.{AreHeights, count_above, stays_within, there_at, window_of, windows_of};
+ghost use Rattle.history_stats.specs.Inner.Refusing.{AreHeights, count_above, stays_within};
+ghost use Rattle.history_stats.specs.Inner.Refusing.{there_at, window_of, windows_of};
 
 use crate::at_once::{count_before, count_by};
 use crate::counting::is_refused;
@@ -38,7 +41,8 @@ pub(crate) fn refused_at(
     requires few_initial { length initial.now ≤ MAX_INITIAL }
     requires few { length operations.now ≤ MAX_EVENTS }
     ensures { IfOk result (λ least. MatchOption least (NoRefusal operations.now)
-        (IsRefusedAt operations.now (λ gap. left_count gap operations.now (initial.now ++ values_called_before gap operations.now)))) }
+        (IsRefusedAt operations.now
+        (λ gap. left_count gap operations.now (initial.now ++ values_called_before gap operations.now)))) }
 {
     let gone = first_gone(alloc, operations)?;
     let mut arrivals = Vec::new(alloc);
@@ -68,8 +72,10 @@ fn add_called(
     operations: &Operations<'_>,
     gone: &BTreeMap<u64, u64>,
 ) -> Result<(), AllocError>
-    ensures stays { OnOk result ((gap : ℕ) → count_by (λ v. not (is_kept_before gap gone.now v)) (values_called_before gap operations.now)
-        + count_before gap departures.new.items + count_before gap arrivals.old.items ≡ count_before gap arrivals.new.items + count_before gap departures.old.items) }
+    ensures stays { OnOk result
+        ((gap : ℕ) → count_by (λ v. not (is_kept_before gap gone.now v)) (values_called_before gap operations.now)
+        + count_before gap departures.new.items + count_before gap arrivals.old.items
+        ≡ count_before gap arrivals.new.items + count_before gap departures.old.items) }
     ensures few { OnOk result (vec_len arrivals.new ≤ vec_len arrivals.old + length operations.now) }
 {
     for operation in operations.iter() {
@@ -86,8 +92,10 @@ fn add_one(
     operation: Operation,
     gone: &BTreeMap<u64, u64>,
 ) -> Result<(), AllocError>
-    ensures stays { OnOk result ((gap : ℕ) → count_by (λ v. not (is_kept_before gap gone.now v)) (values_called_before gap (operation ∷ []))
-        + count_before gap departures.new.items + count_before gap arrivals.old.items ≡ count_before gap arrivals.new.items + count_before gap departures.old.items) }
+    ensures stays { OnOk result
+        ((gap : ℕ) → count_by (λ v. not (is_kept_before gap gone.now v)) (values_called_before gap (operation ∷ []))
+        + count_before gap departures.new.items + count_before gap arrivals.old.items
+        ≡ count_before gap arrivals.new.items + count_before gap departures.old.items) }
     ensures few { OnOk result (vec_len arrivals.new ≤ vec_len arrivals.old + 1) }
 {
     match operation.kind {
@@ -102,7 +110,7 @@ fn add_one(
 }
 
 /// Returns the minimum, over the failed enqueues, of the maximum number present at one gap of the call: `first` are
-/// present from the beginning, one comes at each ticket of `arrivals`, and one goes at each of `departures`.
+/// present from the beginning, one comes at each ticket of `arrivals`, and one leaves at each of `departures`.
 fn refused_among(
     alloc: Global,
     first: usize,
@@ -112,7 +120,8 @@ fn refused_among(
 ) -> Result<Option<usize>, AllocError>
     requires forward { All (λ o. o.call < o.ret) operations.now }
     requires few { first + vec_len arrivals < 2 ^ 62 }
-    ensures { IfOk result (λ least. MatchOption least (NoRefusal operations.now) (IsRefusedAt operations.now (there_at first arrivals.items departures.items))) }
+    ensures { IfOk result (λ least. MatchOption least (NoRefusal operations.now)
+        (IsRefusedAt operations.now (there_at first arrivals.items departures.items))) }
 {
     arrivals.sort_unstable();
     departures.sort_unstable();
@@ -131,7 +140,8 @@ fn refused_in_order(
     requires arrivals { IsNonDecreasing arrivals.now }
     requires departures { IsNonDecreasing departures.now }
     requires few { first + length arrivals.now < 2 ^ 62 }
-    ensures { IfOk result (λ least. MatchOption least (NoRefusal operations.now) (IsRefusedAt operations.now (there_at first arrivals.now departures.now))) }
+    ensures { IfOk result (λ least. MatchOption least (NoRefusal operations.now)
+        (IsRefusedAt operations.now (there_at first arrivals.now departures.now))) }
 {
     let windows = windows_of(alloc, first, arrivals, departures, operations)?;
     if windows.is_empty() {
@@ -242,7 +252,8 @@ fn one_stays_within(heights: &[usize], windows: &[Window], above: &mut [usize], 
 fn stays_within(above: &[usize], window: Window, most: usize) -> bool
     requires { (window.from < length above.now) × (window.to < length above.now) }
     ensures { (heights : List ℕ) → window.from ≤ length heights → window.to ≤ length heights
-        → ((k : ℕ) → k ≤ length heights → slice_index_or above.now k 0 ≡ count_above most (take k heights)) → result ≡ stays_within heights most window }
+        → ((k : ℕ) → k ≤ length heights → slice_index_or above.now k 0 ≡ count_above most (take k heights))
+        → result ≡ stays_within heights most window }
 {
     window.start <= most && above[window.from] == above[window.to]
 }
@@ -251,7 +262,8 @@ fn stays_within(above: &[usize], window: Window, most: usize) -> bool
 fn count_above(heights: &[usize], above: &mut [usize], most: usize)
     requires { length above.old ≡ length heights.now + 1 }
     ensures room { length above.new ≡ length heights.now + 1 }
-    ensures counts { (k : ℕ) → k ≤ length heights.now → slice_index_or above.new k 0 ≡ count_above most (take k heights.now) }
+    ensures counts { (k : ℕ) → k ≤ length heights.now
+        → slice_index_or above.new k 0 ≡ count_above most (take k heights.now) }
 {
     above[0] = 0;
     for place in 0..heights.len() {

@@ -1,5 +1,6 @@
 //! The times at which values were enqueued and first dequeued.
-ghost use Rattle.std.specs.Prelude.{◌≡◌, ◌≤◌, ◌<◌, ◌||◌, ◌&&◌, ◌==◌, ℕ, All, IfOk, IfSome, List, OnOk, filter_map, false, length, map, nat_lt, vec_len};
+ghost use Rattle.std.specs.Prelude.{◌≡◌, ◌≤◌, ◌<◌, ◌||◌, ◌&&◌, ◌==◌, ℕ, All, IfOk, IfSome, List};
+ghost use Rattle.std.specs.Prelude.{OnOk, filter_map, false, length, map, nat_lt, vec_len};
 ghost use Rattle.std.specs.List.Sorted.{IsNonDecreasing, IsNonDecreasingBy};
 ghost use Rattle.std.specs.Option.{option_map_or};
 ghost use Rattle.history_merge.specs.declared.operation.Operation.{Operation};

@@ -1,5 +1,6 @@
 //! Dequeues of values that were enqueued.
-ghost use Rattle.std.specs.Prelude.{◌≡◌, ℕ, IfOk, IsPermutation, List, OnOk, Option, Some, None, option_map, find, nat_eq, if◌then◌else◌};
+ghost use Rattle.std.specs.Prelude.{◌≡◌, ℕ, IfOk, IsPermutation, List, OnOk, Option};
+ghost use Rattle.std.specs.Prelude.{Some, None, option_map, find, nat_eq, if◌then◌else◌};
 ghost use Rattle.std.specs.Option.{option_or};
 ghost use Rattle.std.specs.Ordering.{nat_cmp};
 ghost use Rattle.std.specs.BTreeMap.{get};
@@ -64,7 +65,8 @@ fn keep_enqueue(calls: &mut BTreeMap<u64, u64>, operation: Operation) -> Result<
 
 /// Keeps the ticket for the value, unless one is kept.
 fn keep_first(kept: &mut BTreeMap<u64, u64>, value: u64, ticket: u64) -> Result<(), AllocError>
-    ensures { OnOk result ((v : ℕ) → get nat_cmp kept.new v ≡ option_or (get nat_cmp kept.old v) (if nat_eq v value then Some ticket else None)) }
+    ensures { OnOk result ((v : ℕ) → get nat_cmp kept.new v
+        ≡ option_or (get nat_cmp kept.old v) (if nat_eq v value then Some ticket else None)) }
 {
     if kept.get(&value).is_none() {
         kept.insert(value, ticket)?;
@@ -92,7 +94,8 @@ fn all_takings(
 
 /// Returns the operation as a dequeue of an enqueued value, if it is one.
 fn taking_by(enqueue_calls: &BTreeMap<u64, u64>, operation: Operation) -> Option<Taking>
-    ensures { (operations : List Operation) → AreEnqueueCalls operations enqueue_calls.now → result ≡ taking_by operations operation operation.kind }
+    ensures { (operations : List Operation) → AreEnqueueCalls operations enqueue_calls.now
+        → result ≡ taking_by operations operation operation.kind }
 {
     let OpKind::Deq(value) = operation.kind else {
         return None;

@@ -1,5 +1,6 @@
 //! Numbers counted in blocks, so that those below a given one are counted in a few steps.
-ghost use Rattle.std.specs.Prelude.{◌≡◌, ◌+◌, ◌<◌, ◌≤◌, ◌++◌, ◌∷◌, ◌^◌, [], ℕ, IfOk, List, count_by, length, nat_lt, replicate, slice_index_or, slice_set};
+ghost use Rattle.std.specs.Prelude.{◌≡◌, ◌+◌, ◌<◌, ◌≤◌, ◌++◌, ◌∷◌, ◌^◌, [], ℕ, IfOk, List};
+ghost use Rattle.std.specs.Prelude.{count_by, length, nat_lt, replicate, slice_index_or, slice_set};
 ghost use Rattle.history_stats.specs.Inner.Tally.{HasRoomFor, IsTally};
 
 use std::alloc::{AllocError, Global};

@@ -2,7 +2,8 @@
 ghost use Rattle.std.specs.Prelude.{◌≡◌, ◌+◌, ◌≤◌, ◌++◌, decimal, length, []};
 ghost use Rattle.std.specs.Option.{option_map_or};
 ghost use Rattle.text_lines.specs.Writing.{Writes};
-ghost use Rattle.history_stats.specs.Text.{decimal_of_tenths, overtaking_line, overtakings_text, statistic_line, statistics_text};
+ghost use Rattle.history_stats.specs.Text.{decimal_of_tenths, overtaking_line};
+ghost use Rattle.history_stats.specs.Text.{overtakings_text, statistic_line, statistics_text};
 
 use crate::overtaking::Overtaking;
 use crate::statistics::Statistics;
@@ -13,7 +14,8 @@ pub fn write_statistics<W: TextSink>(
     statistics: &Statistics,
     writer: &mut W,
 ) -> Result<(), WriteFault>
-    ensures { Writes W.contents W.has_refused W.transition (statistics_text statistics.now) writer.old writer.new result }
+    ensures { Writes W.contents W.has_refused W.transition
+        (statistics_text statistics.now) writer.old writer.new result }
 {
     let mut kept = WriteBuffer::new();
     push_statistics(&mut kept, statistics);
@@ -26,7 +28,8 @@ pub fn write_overtakings<W: TextSink>(
     overtakings: &[Overtaking],
     writer: &mut W,
 ) -> Result<(), WriteFault>
-    ensures { Writes W.contents W.has_refused W.transition (overtakings_text overtakings.now) writer.old writer.new result }
+    ensures { Writes W.contents W.has_refused W.transition
+        (overtakings_text overtakings.now) writer.old writer.new result }
 {
     let mut kept = WriteBuffer::new();
     for overtaking in overtakings {

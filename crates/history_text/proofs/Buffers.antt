@@ -26,7 +26,7 @@ part_splits bytes at filled len text within fits is =
     omega (arith, long, length-drop len rest, length-drop at bytes, within, fits) in
     ap (λ (r : List ℕ). take (filled - at) r) is ∙ rw (count, take-append-add, drop-drop) refl
 
--- what is left of a buffer that is filled up to this place
+-- the bytes left of a buffer that is filled up to this place
 abbrev left_in : List ℕ → ℕ → ℕ → Known → Left
 left_in bytes at filled behind = record { front = part bytes at filled; behind = behind }
 

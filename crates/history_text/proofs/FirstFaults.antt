@@ -178,7 +178,7 @@ module _ {A : Type 0} (format : Format A) where
 
 -- ---- whole texts
 
--- how an input is judged: a text that it begins with is read, if such bytes may follow, and a first fault is found
+-- the judgement of an input: a text that it begins with is read, if such bytes may follow, and a first fault is found
 pub record IsJudged {T : Type 0} (HasIt : T → Type 0) (text : T → List ℕ) (MayFollow : Ending → List ℕ → Type 0)
     (IsFault : ℕ → Ending → List ℕ → TextFault → Type 0) (judge : ℕ → Ending → List ℕ → Result (T × List ℕ) TextFault) : Type 0 where
   pub read : (lines : ℕ) (ending : Ending) (t : T) (rest : List ℕ) → HasIt t → MayFollow ending rest → judge lines ending (text t ++ rest) ≡ Ok (t, rest)

@@ -85,7 +85,7 @@ of_numbers (Number least greatest ∷ forms) P each [] h = absurd h
 of_numbers (Number least greatest ∷ forms) P each (v ∷ vs) h = of_numbers forms (λ ws. P (v ∷ ws)) (each v h.0 h.1) vs h.2
 
 module _ {T A : Type 0} (table : Table T) (make : T → List ℕ → A) where
-  -- what a row of the table writes is read back
+  -- the text that a row of the table writes is read back
   pub row_back : (what : T) (form : List FieldForm) (numbers : List ℕ) → list_all has_bits form ≡ true → is_line_form form ≡ true
       → ((n : ℕ) → parse_line n table (spelled form numbers) ≡ (numbers_in n form (spelled form numbers) >>= λ found. Ok (what, found)))
       → AreOfForm form numbers → IsReadAs (read_by table make) (spelled form numbers) (make what numbers)

@@ -227,7 +227,7 @@ fault_said takes_cut lines ending bytes fault (inr (is_pending, version, (rest, 
 
 -- ---- an input has one content
 
--- what comes after the content
+-- the bytes after the content
 abbrev after_said : Result Said TextFault → Result (List ℕ) TextFault
 after_said (Ok said) = said.1
 after_said (Err fault) = Err fault

@@ -1,4 +1,4 @@
--- What a call on a reader returns about the input that was left.
+-- The results of a reader's calls, by the input that was left.
 use Rattle.std.specs.Prelude.{◌≡◌, ℕ, Bool, true, false, List, [], ◌∷◌, ◌++◌}
 use Rattle.text_lines.specs.declared.fault.TextFault.{TextFault}
 use Rattle.text_lines.specs.declared.fault.TextFault.TheVariants.{Read, Trailing}

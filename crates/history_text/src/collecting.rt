@@ -37,7 +37,8 @@ impl<T: Drop> Collects<T> for Vec<T> {
 }
 
 impl Collects<Event> for HistoryBuilder {
-    ghost Adds = { λ first now events. (initial : List ℕ) → HasGathered initial [] first → HasGathered initial events now };
+    ghost Adds = { λ first now events. (initial : List ℕ) → HasGathered initial [] first
+        → HasGathered initial events now };
 
     ghost none = { λ first initial begun. begun };
 

@@ -71,7 +71,8 @@ fn event_of(what: What, numbers: &NumberFields) -> Event
 #[inline(always)]
 fn thread_at(bytes: &[u8], at: usize) -> Option<(u8, usize)>
     requires { at + 3 ≤ length bytes.now }
-    ensures thread { IfSome result (λ p. (drop at bytes.now ≡ decimal p.0 ++ 32 ∷ drop p.1 bytes.now) × (p.0 ≤ MAX_THREAD)) }
+    ensures thread { IfSome result
+        (λ p. (drop at bytes.now ≡ decimal p.0 ++ 32 ∷ drop p.1 bytes.now) × (p.0 ≤ MAX_THREAD)) }
     ensures end { IfSome result (λ p. p.1 ≤ at + 3) }
 {
     let first = bytes[at].wrapping_sub(b'0');
@@ -92,11 +93,13 @@ fn thread_at(bytes: &[u8], at: usize) -> Option<(u8, usize)>
 /// Parses the word, the value if there is one, and the line feed at `at`. Returns the kind of the event with the
 /// place after them.
 ///
-/// Eight bytes are compared at once. Calls are told from returns first, so that fewer branches are hard to predict.
+/// Eight bytes are compared at once. Calls are separated from returns first, so that fewer branches are hard to
+/// predict.
 #[inline(always)]
 fn what_at(bytes: &[u8], at: usize) -> Option<(What, usize)>
     requires { at + 34 ≤ length bytes.now }
-    ensures { IfSome result (λ p. (drop at bytes.now ≡ line (spaced (what_fields p.0)) ++ drop p.1 bytes.now) × HasValueInRange p.0) }
+    ensures { IfSome result
+        (λ p. (drop at bytes.now ≡ line (spaced (what_fields p.0)) ++ drop p.1 bytes.now) × HasValueInRange p.0) }
 {
     if let Some(next) = after_word_at(bytes, at + 1, b"all-enq ") {
         after_word_at(bytes, at, b"c")?;

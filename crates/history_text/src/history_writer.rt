@@ -85,7 +85,8 @@ fn put_events<W: TextSink>(
     kept: &mut WriteBuffer,
     writer: &mut W,
 ) -> Result<(), WriteFault>
-    ensures text { PutsText W.contents W.has_refused W.transition kept.old kept.new (flat_map event_line events.entry) writer.old writer.new result }
+    ensures text { PutsText W.contents W.has_refused W.transition kept.old kept.new
+        (flat_map event_line events.entry) writer.old writer.new result }
     ensures fits { OnOk result (All (λ e. HasValueInRange e.what) events.entry) }
 {
     for event in events {
@@ -102,7 +103,8 @@ fn put_before_events<W: TextSink>(
     writer: &mut W,
 ) -> Result<(), WriteFault>
     requires { kept.old ≡ [] }
-    ensures text { PutsText W.contents W.has_refused W.transition [] kept.new (lines_before_events version initial.now) writer.old writer.new result }
+    ensures text { PutsText W.contents W.has_refused W.transition [] kept.new
+        (lines_before_events version initial.now) writer.old writer.new result }
     ensures fits { version ≡ Two → OnOk result (All (λ v. v ≤ greatest_value) initial.now) }
 {
     match version {
@@ -125,7 +127,8 @@ fn put_end<W: TextSink>(
     kept: &mut WriteBuffer,
     writer: &mut W,
 ) -> Result<(), WriteFault>
-    ensures { PutsText W.contents W.has_refused W.transition kept.old kept.new (end_line count) writer.old writer.new result }
+    ensures { PutsText W.contents W.has_refused W.transition kept.old kept.new
+        (end_line count) writer.old writer.new result }
 {
     make_room(kept, writer)?;
     kept.push(b"end ");
@@ -143,7 +146,8 @@ fn put_text<W: TextSink>(
 ) -> Result<(), WriteFault>
     requires kept { kept.old ≡ [] }
     requires version { version ≡ One → history.now.initial ≡ [] }
-    ensures text { PutsText W.contents W.has_refused W.transition [] kept.new (text_by version history.now.initial history.now.events) writer.old writer.new result }
+    ensures text { PutsText W.contents W.has_refused W.transition [] kept.new
+        (text_by version history.now.initial history.now.events) writer.old writer.new result }
     ensures readable { OnOk result (HasText (said_in version history.now)) }
 {
     put_before_events(version, history.initial(), kept, writer)?;
@@ -162,7 +166,8 @@ pub fn write_history<W: TextSink>(
 ) -> Result<(), WriteFault>
     // Version 1 has no initial values.
     requires { version ≡ One → history.now.initial ≡ [] }
-    ensures text { Writes W.contents W.has_refused W.transition (text_of (said_in version history.now)) writer.old writer.new result }
+    ensures text { Writes W.contents W.has_refused W.transition
+        (text_of (said_in version history.now)) writer.old writer.new result }
 
     // `read_history` reads back what is written, since it reads each text that its input begins with.
     ensures readable { OnOk result (HasText (said_in version history.now)) }
@@ -181,7 +186,8 @@ fn put_events_text<W: TextSink>(
     writer: &mut W,
 ) -> Result<(), WriteFault>
     requires { kept.old ≡ [] }
-    ensures { PutsText W.contents W.has_refused W.transition [] kept.new (text_by version initial.now events.now) writer.old writer.new result }
+    ensures { PutsText W.contents W.has_refused W.transition [] kept.new
+        (text_by version initial.now events.now) writer.old writer.new result }
 {
     put_before_events(version, initial, kept, writer)?;
     put_each(&HistoryLines, events, kept, writer)?;
@@ -199,7 +205,8 @@ pub fn write_events<W: TextSink>(
 ) -> Result<(), WriteFault>
     // Version 1 has no initial values.
     requires { version ≡ One → initial.now ≡ [] }
-    ensures text { Writes W.contents W.has_refused W.transition (text_by version initial.now events.now) writer.old writer.new result }
+    ensures text { Writes W.contents W.has_refused W.transition
+        (text_by version initial.now events.now) writer.old writer.new result }
 {
     let mut kept = WriteBuffer::new();
     put_events_text(version, initial, events, &mut kept, writer)?;

@@ -28,7 +28,8 @@ pub(crate) fn put_one<T, L: WritesLine<T>, W: TextSink>(
     kept: &mut WriteBuffer,
     writer: &mut W,
 ) -> Result<(), WriteFault>
-    ensures text { PutsText W.contents W.has_refused W.transition kept.old kept.new (L.line lines.now item.now) writer.old writer.new result }
+    ensures text { PutsText W.contents W.has_refused W.transition kept.old kept.new
+        (L.line lines.now item.now) writer.old writer.new result }
     ensures fits { OnOk result (L.Fits lines.now item.now) }
 {
     make_room(kept, writer)?;
@@ -43,7 +44,8 @@ pub(crate) fn put_each<T, L: WritesLine<T>, W: TextSink>(
     kept: &mut WriteBuffer,
     writer: &mut W,
 ) -> Result<(), WriteFault>
-    ensures text { PutsText W.contents W.has_refused W.transition kept.old kept.new (flat_map (L.line lines.now) items.now) writer.old writer.new result }
+    ensures text { PutsText W.contents W.has_refused W.transition kept.old kept.new
+        (flat_map (L.line lines.now) items.now) writer.old writer.new result }
     ensures fits { OnOk result (All (L.Fits lines.now) items.now) }
 {
     for item in items {

@@ -36,7 +36,8 @@ const OPEN_FORMS: [((), &[Field]); 1] = [(
 
 /// Returns whether this is the first line of a pending text, and its version; none if it is no first line.
 pub(crate) fn first_line_in(bytes: &[u8]) -> Option<(bool, Version)>
-    ensures { MatchOption result ((is_pending : Bool) (version : Version) → bytes.now ≡ first_line_of is_pending version → ⊥)
+    ensures { MatchOption result
+        ((is_pending : Bool) (version : Version) → bytes.now ≡ first_line_of is_pending version → ⊥)
         (λ first. bytes.now ≡ first_line_of first.0 first.1) }
 {
     if bytes == b"fifo-pending 1".as_slice() {

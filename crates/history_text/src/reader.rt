@@ -1,21 +1,21 @@
 //! Reading texts line by line.
-ghost use Rattle.std.specs.Prelude.{◌≡◌, ◌+◌, ◌<◌, ◌^◌, ◌≤◌, true, false, IfOk, IfErr, OnErr, OnOk, MatchResult, IfNone, IfSome};
-ghost use Rattle.std.specs.Prelude.{option_to_list, is_err, not, Err, Ok, length, List, []};
+ghost use Rattle.std.specs.Prelude.{◌≡◌, ◌+◌, ◌<◌, ◌^◌, ◌≤◌, true, false, IfOk, IfErr, OnErr, OnOk, MatchResult};
+ghost use Rattle.std.specs.Prelude.{IfNone, IfSome, option_to_list, is_err, not, Err, Ok, length, List, []};
 ghost use Rattle.event_records.specs.declared.limits.TheConstants.{MAX_INITIAL};
 ghost use Rattle.claims.specs.declared.claimed.Claimed.{Claimed};
 ghost use Rattle.history_text.specs.declared.schedule.Schedule.{Schedule};
 ghost use Rattle.text_lines.specs.Input.{EndOfInput, Failure};
 ghost use Rattle.text_lines.specs.Lines.{header_fault, line};
 ghost use Rattle.history_text.specs.Items.{item_at_front, line_at_front, line_of, lines_of, HaveLines};
-ghost use Rattle.history_text.specs.Versions.{header_of, NoVersionFault};
-ghost use Rattle.history_text.specs.Versions.{lines_before_events, count_before_events, text_of, line_count, HaveValueLines, HasText, HistoryText, IsReadAs};
+ghost use Rattle.history_text.specs.Versions.{header_of, NoVersionFault, lines_before_events, count_before_events};
+ghost use Rattle.history_text.specs.Versions.{text_of, line_count, HaveValueLines, HasText, HistoryText, IsReadAs};
 ghost use Rattle.history_text.specs.Schedules.{schedule_text, HasScheduleText};
 ghost use Rattle.history_text.specs.Verdicts.{verdict_text};
 ghost use Rattle.history_text.specs.Claims.{claim_length, HasVerdictText, first_line, FirstLineFault};
-ghost use Rattle.history_text.specs.Reading.{HasTextFault, HasScheduleTextFault, HasVerdictTextFault, HasEndFault, IsOver, IsOverIf, Takes};
-ghost use Rattle.history_text.specs.Reading.{BeginsWith, Fails, IsAll, OfLeft};
-ghost use Rattle.history_text.specs.Inner.Taking.{TakesLine, FaultAtFront, BrokenLineFault, NoLineFault, TakesItem, TakesItems};
-ghost use Rattle.history_text.specs.Inner.Taking.{HasItemsFault, HasFaultAmong, IsOfInput};
+ghost use Rattle.history_text.specs.Reading.{HasTextFault, HasScheduleTextFault, HasVerdictTextFault, HasEndFault};
+ghost use Rattle.history_text.specs.Reading.{IsOver, IsOverIf, Takes, BeginsWith, Fails, IsAll, OfLeft};
+ghost use Rattle.history_text.specs.Inner.Taking.{TakesLine, FaultAtFront, BrokenLineFault, NoLineFault};
+ghost use Rattle.history_text.specs.Inner.Taking.{TakesItem, TakesItems, HasItemsFault, HasFaultAmong, IsOfInput};
 ghost use Rattle.history_text.specs.Inner.Pending.{NoRoomForValues, ValuesFault};
 ghost use Rattle.history_text.specs.Pending.{value_lines};
 ghost use Rattle.history_text.specs.Reading.{HasFirstFault};
@@ -75,7 +75,8 @@ impl<R: TextSource> Model for TextReader<R> {
 impl<R: TextSource> TextReader<R> {
     /// Makes a reader at the beginning of its source. Takes no memory, and reads nothing yet.
     pub fn new(source: R) -> Self
-        ensures { result ≡ record { left = record { front = []; behind = R.ahead source }; lines = 0; is_stopped = false } }
+        ensures { result
+            ≡ record { left = record { front = []; behind = R.ahead source }; lines = 0; is_stopped = false } }
     {
         TextReader {
             source,
@@ -174,7 +175,8 @@ impl<R: TextSource> TextReader<R> {
     fn header_line(&mut self, expected: &[u8]) -> Result<(), TextFault>
         requires { self.old.lines + 1 < 2 ^ 64 }
         ensures ok { OnOk result (Takes self.old.left self.new.left (line expected.now)) }
-        ensures fault { IfErr result (FaultAtFront (λ ending fault front. header_fault expected.now ending front ≡ Some fault) self.old.left) }
+        ensures fault { IfErr result
+            (FaultAtFront (λ ending fault front. header_fault expected.now ending front ≡ Some fault) self.old.left) }
         ensures of_input { IfErr result IsOfInput }
         ensures lines { self.new.lines ≡ self.old.lines + 1 }
     {
@@ -250,7 +252,9 @@ impl<R: TextSource> TextReader<R> {
     fn item_by_line<T: Item>(&mut self, count: usize) -> Result<Option<T>, TextFault>
         requires { self.old.lines + 1 < 2 ^ 64 }
         ensures ok { IfOk result (TakesItem T.format self.old.left self.new.left count) }
-        ensures fault { IfErr result (FaultAtFront (λ ending fault front. item_at_front T.format (self.old.lines + 1) count ending front ≡ Err fault) self.old.left) }
+        ensures fault { IfErr result
+            (FaultAtFront (λ ending fault front. item_at_front T.format (self.old.lines + 1) count ending front
+            ≡ Err fault) self.old.left) }
         ensures of_input { IfErr result IsOfInput }
         ensures lines { self.new.lines ≡ self.old.lines + 1 }
     {
@@ -267,8 +271,11 @@ impl<R: TextSource> TextReader<R> {
     /// Returns the item of the next line, which must be one. The fast path is tried first.
     fn required_item<T: Item>(&mut self) -> Result<T, TextFault>
         requires { self.old.lines + 1 < 2 ^ 64 }
-        ensures ok { IfOk result (λ item. Takes self.old.left self.new.left (line_of T.format item) × T.format.HasLine item) }
-        ensures fault { IfErr result (FaultAtFront (λ ending fault front. line_at_front T.format.read (self.old.lines + 1) ending front ≡ Err fault) self.old.left) }
+        ensures ok { IfOk result
+            (λ item. Takes self.old.left self.new.left (line_of T.format item) × T.format.HasLine item) }
+        ensures fault { IfErr result
+            (FaultAtFront (λ ending fault front. line_at_front T.format.read (self.old.lines + 1) ending front
+            ≡ Err fault) self.old.left) }
         ensures of_input { IfErr result IsOfInput }
         ensures lines { self.new.lines ≡ self.old.lines + 1 }
     {
@@ -283,7 +290,8 @@ impl<R: TextSource> TextReader<R> {
     fn required_items<T: Item>(&mut self, alloc: Global, count: usize) -> Result<Vec<T>, TextFault>
         requires few { count ≤ T.format.most }
         requires lines { self.old.lines < 2 ^ 63 + 2 ^ 32 }
-        ensures items { IfOk result (λ v. HaveLines T.format v.items × Takes self.old.left self.new.left (lines_of T.format v.items)) }
+        ensures items { IfOk result
+            (λ v. HaveLines T.format v.items × Takes self.old.left self.new.left (lines_of T.format v.items)) }
         ensures count { IfOk result (λ v. length v.items ≡ count) }
         ensures fault { IfErr result (HasFaultAmong T.format count (self.old.lines + 1) self.old.left) }
         ensures lines { IfOk result (λ v. self.new.lines ≡ self.old.lines + count) }
@@ -302,7 +310,8 @@ impl<R: TextSource> TextReader<R> {
     #[tactic(auto, using(crate::proofs::FirstFaults::no_room))]
     fn collect_items<T: Item, C: Collects<T>>(&mut self, into: &mut C) -> Result<(), TextFault>
         requires { self.old.lines < 2 ^ 63 + 2 ^ 33 }
-        ensures collected { IfOk result (λ _. (items : List T) × HaveLines T.format items × TakesItems T.format self.old.left self.new.left items
+        ensures collected { IfOk result
+            (λ _. (items : List T) × HaveLines T.format items × TakesItems T.format self.old.left self.new.left items
             × (self.new.lines ≡ self.old.lines + 1 + length items) × C.Adds into.old into.new items) }
         ensures fault { IfErr result (HasItemsFault T.format (self.old.lines + 1) self.old.left) }
     {
@@ -347,7 +356,8 @@ impl<R: TextSource> TextReader<R> {
     /// Returns the version and the initial values of the history's text that the input begins with.
     fn before_events(&mut self, alloc: Global) -> Result<(Version, Vec<u64>), TextFault>
         requires { self.old.lines < 2 ^ 63 }
-        ensures values { IfOk result (λ p. HaveValueLines p.0 p.1.items × Takes self.old.left self.new.left (lines_before_events p.0 p.1.items)) }
+        ensures values { IfOk result (λ p. HaveValueLines p.0 p.1.items
+            × Takes self.old.left self.new.left (lines_before_events p.0 p.1.items)) }
         ensures fault { IfErr result (HasTextFault self.old.lines self.old.left) }
         ensures lines { IfOk result (λ p. self.new.lines ≡ self.old.lines + count_before_events p.0 p.1.items) }
         ensures few { IfOk result (λ p. length p.1.items ≤ MAX_INITIAL) }
@@ -360,8 +370,10 @@ impl<R: TextSource> TextReader<R> {
     /// Returns the initial values, which only version 2 has.
     fn initial_values(&mut self, alloc: Global, version: Version) -> Result<Vec<u64>, TextFault>
         requires { self.old.lines < 2 ^ 63 + 1 }
-        ensures values { IfOk result (λ v. HaveValueLines version v.items × Takes self.old.left self.new.left (value_lines version v.items)) }
-        ensures fault { IfErr result (HasFirstFault (ValuesFault version (self.old.lines + 1)) (NoRoomForValues version) self.old.left) }
+        ensures values { IfOk result
+            (λ v. HaveValueLines version v.items × Takes self.old.left self.new.left (value_lines version v.items)) }
+        ensures fault { IfErr result
+            (HasFirstFault (ValuesFault version (self.old.lines + 1)) (NoRoomForValues version) self.old.left) }
         ensures lines { IfOk result (λ v. self.new.lines + 1 ≡ self.old.lines + count_before_events version v.items) }
         ensures few { IfOk result (λ v. length v.items ≤ MAX_INITIAL) }
     {
@@ -377,7 +389,8 @@ impl<R: TextSource> TextReader<R> {
     /// Returns the version of the history's text that the input begins with, and the builder of its history.
     fn history(&mut self, alloc: Global) -> Result<(Version, HistoryBuilder), TextFault>
         requires { self.old.lines < 2 ^ 63 }
-        ensures text { IfOk result (λ read. (text : HistoryText) × HasText text × Takes self.old.left self.new.left (text_of text)
+        ensures text { IfOk result
+            (λ read. (text : HistoryText) × HasText text × Takes self.old.left self.new.left (text_of text)
             × ((self.new.lines ≡ self.old.lines + line_count text) × IsReadAs text read.0 read.1)) }
         ensures fault { IfErr result (HasTextFault self.old.lines self.old.left) }
     {
@@ -422,7 +435,8 @@ impl<R: TextSource> TextReader<R> {
     /// Returns the verdict that is all of the input. The end of the input counts as one more line.
     fn lines_of_claim(&mut self, alloc: Global) -> Result<Claimed, TextFault>
         requires { self.old.lines < 2 ^ 63 }
-        ensures claim { IfOk result (λ c. HasVerdictText c × Takes self.old.left self.new.left (verdict_text c) × IsOver EndOfInput self.new.left) }
+        ensures claim { IfOk result (λ c. HasVerdictText c × Takes self.old.left self.new.left (verdict_text c)
+            × IsOver EndOfInput self.new.left) }
         ensures fault { IfErr result (HasVerdictTextFault self.old.lines self.old.left) }
         ensures lines { IfOk result (λ c. self.new.lines ≡ self.old.lines + 2 + claim_length c) }
     {
@@ -441,7 +455,8 @@ impl<R: TextSource> TextReader<R> {
     /// Returns the verdict that is all of the input.
     fn claim(&mut self, alloc: Global) -> Result<Claimed, TextFault>
         requires { self.old.lines < 2 ^ 63 }
-        ensures claim { IfOk result (λ c. HasVerdictText c × Takes self.old.left self.new.left (verdict_text c) × IsOver EndOfInput self.new.left) }
+        ensures claim { IfOk result (λ c. HasVerdictText c × Takes self.old.left self.new.left (verdict_text c)
+            × IsOver EndOfInput self.new.left) }
         ensures fault { IfErr result (HasVerdictTextFault self.old.lines self.old.left) }
         ensures lines { IfOk result (λ c. self.new.lines ≡ self.old.lines + 1 + claim_length c) }
     {
@@ -491,7 +506,7 @@ pub fn is_at_end<R: TextSource>(reader: &mut TextReader<R>) -> Result<bool, Text
 /// Returns its version, and a builder that holds its initial values and events.
 ///
 /// [`HistoryBuilder::finish`] returns whether they are a complete history. Takes time linear in the bytes read,
-/// beside that of the builder, and memory for the initial values and the builder. `Memory` comes only at a line that,
+/// besides that of the builder, and memory for the initial values and the builder. `Memory` comes only at a line that,
 /// like those before it, is whole and without fault.
 ///
 /// The text of one operation:
@@ -512,7 +527,8 @@ pub fn read_history<R: TextSource>(
 
     // The input begins with the text of this version, these values and these events; nothing else is taken, and the
     // builder has exactly these.
-    ensures text { IfOk result (λ read. (text : HistoryText) × HasText text × Takes reader.old.left reader.new.left (text_of text)
+    ensures text { IfOk result
+        (λ read. (text : HistoryText) × HasText text × Takes reader.old.left reader.new.left (text_of text)
         × ((reader.new.lines ≡ reader.old.lines + line_count text) × IsReadAs text read.0 read.1)) }
 
     // A text of either version that the input begins with is read, unless memory runs out.
@@ -545,7 +561,8 @@ pub fn read_schedule<R: TextSource>(
     ensures schedule { IfOk result (λ s. HasScheduleText s × Takes reader.old.left reader.new.left (schedule_text s)) }
 
     // A text of a schedule that the input begins with is read, unless memory runs out.
-    ensures whole { (schedule : Schedule) → HasScheduleText schedule → BeginsWith reader.old.left (schedule_text schedule)
+    ensures whole { (schedule : Schedule) → HasScheduleText schedule
+        → BeginsWith reader.old.left (schedule_text schedule)
         → MatchResult result (λ s. s ≡ schedule) (λ fault. fault ≡ TextFault.Memory) }
 
     // The fault is the first one.
@@ -572,7 +589,8 @@ pub fn read_verdict<R: TextSource>(
     requires lines { reader.old.lines < 2 ^ 63 }
 
     // The input is the text of this claim, and then over.
-    ensures claim { IfOk result (λ c. HasVerdictText c × Takes reader.old.left reader.new.left (verdict_text c) × IsOver EndOfInput reader.new.left) }
+    ensures claim { IfOk result (λ c. HasVerdictText c × Takes reader.old.left reader.new.left (verdict_text c)
+        × IsOver EndOfInput reader.new.left) }
 
     // If the rest of the input is the text of a claim, it is read, unless memory runs out.
     ensures whole { (claimed : Claimed) → HasVerdictText claimed → IsAll reader.old.left (verdict_text claimed)

@@ -8,7 +8,7 @@ use text_lines::{ReadFailed, TextSource};
 /// The maximum number of bytes that one read asks a source for.
 pub(crate) const BUFFER_LEN: usize = 4096;
 
-/// Whether the end of a source was seen. It isn't asked again then.
+/// The state of a source: its end was seen or not. After the end it isn't asked again.
 #[derive(Clone, Copy)]
 pub(crate) enum SourceEnd {
     NotSeen,
@@ -27,7 +27,8 @@ pub(crate) fn read_at<R: TextSource>(
 ) -> Result<usize, ReadFailed>
     requires room { at + BUFFER_LEN ≤ length buffer.old }
     ensures bound { IfOk result (λ n. n ≤ BUFFER_LEN) }
-    ensures bytes { IfOk result (λ n. Gives (behind end.old (R.ahead source.old)) (behind end.new (R.ahead source.new)) (take n (drop at buffer.new))) }
+    ensures bytes { IfOk result (λ n. Gives (behind end.old (R.ahead source.old)) (behind end.new (R.ahead source.new))
+        (take n (drop at buffer.new))) }
     ensures over { IfOk result (λ n. n ≡ 0 → behind end.new (R.ahead source.new) ≡ Exactly (over EndOfInput)) }
     ensures failed { OnErr result (Gives (behind end.old (R.ahead source.old)) (behind end.new (R.ahead source.new)) []
         × (behind end.new (R.ahead source.new) ≡ Exactly (over Failure))) }

@@ -14,7 +14,8 @@ use text_lines::{Field, TextFault, after_word_at, number_at};
 
 /// Returns the version that begins with this line.
 pub(crate) fn version_in(bytes: &[u8]) -> Option<Version>
-    ensures { MatchOption result ((version : Version) → bytes.now ≡ header_of version → ⊥) (λ version. bytes.now ≡ header_of version) }
+    ensures { MatchOption result ((version : Version) → bytes.now ≡ header_of version → ⊥)
+        (λ version. bytes.now ≡ header_of version) }
 {
     if bytes == b"fifo-history 1".as_slice() {
         Some(Version::One)

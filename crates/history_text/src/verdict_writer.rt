@@ -3,8 +3,9 @@ ghost use Rattle.std.specs.Prelude.{◌≡◌, ◌+◌, ◌≤◌, ◌∷◌, �
 ghost use Rattle.std.specs.List.{flat_map};
 ghost use Rattle.history_merge.specs.Operations.{operations_of};
 ghost use Rattle.text_lines.specs.Lines.{line, spaced};
-ghost use Rattle.history_text.specs.Verdicts.{kind_fields, kind_name, operation_line, claim_line, verdict_text, IsWithin};
-ghost use Rattle.history_text.specs.Verdicts.{maybe_place, violation_places, places_of_step, violation_kind, claim_of};
+ghost use Rattle.history_text.specs.Verdicts.{kind_fields, kind_name, operation_line, claim_line};
+ghost use Rattle.history_text.specs.Verdicts.{verdict_text, IsWithin, maybe_place, violation_places};
+ghost use Rattle.history_text.specs.Verdicts.{places_of_step, violation_kind, claim_of};
 ghost use Rattle.history_text.specs.Inner.Verdicts.{line_text, lines_text, word_of};
 ghost use Rattle.history_text.specs.declared.version.Version.TheVariants.{One};
 ghost use Rattle.history_text.specs.Versions.{said_in, text_of};
@@ -116,7 +117,8 @@ fn put_with_last<W: TextSink>(
     writer: &mut W,
 ) -> Result<(), WriteFault>
     ensures { PutsText W.contents W.has_refused W.transition kept.old kept.new
-        (lines_text lines.now.initial.now lines.now.operations.now (first.now ++ maybe_place last)) writer.old writer.new result }
+        (lines_text lines.now.initial.now lines.now.operations.now (first.now ++ maybe_place last))
+        writer.old writer.new result }
 {
     put_each(lines, first, kept, writer)?;
     put_each(lines, last.as_slice(), kept, writer)
@@ -129,7 +131,8 @@ fn put_cover<W: TextSink>(
     writer: &mut W,
 ) -> Result<(), WriteFault>
     ensures { PutsText W.contents W.has_refused W.transition kept.old kept.new
-        (flat_map (λ step. lines_text lines.now.initial.now lines.now.operations.now (places_of_step step)) steps.now) writer.old writer.new result }
+        (flat_map (λ step. lines_text lines.now.initial.now lines.now.operations.now (places_of_step step)) steps.now)
+        writer.old writer.new result }
 {
     for step in steps {
         put_with_last(
@@ -163,7 +166,8 @@ fn put_violation<W: TextSink>(
     writer: &mut W,
 ) -> Result<(), WriteFault>
     ensures { PutsText W.contents W.has_refused W.transition kept.old kept.new
-        (lines_text lines.now.initial.now lines.now.operations.now (violation_places violation.now)) writer.old writer.new result }
+        (lines_text lines.now.initial.now lines.now.operations.now (violation_places violation.now))
+        writer.old writer.new result }
 {
     match violation {
         Violation::Fresh { deq, enq } => {
@@ -254,7 +258,8 @@ pub fn write_verdict<W: TextSink>(
     requires { IsWithin history.now.initial (operations_of history.now.events) verdict.now }
 
     ensures { Writes W.contents W.has_refused W.transition
-        (verdict_text (claim_of history.now.initial (operations_of history.now.events) verdict.now)) writer.old writer.new result }
+        (verdict_text (claim_of history.now.initial (operations_of history.now.events) verdict.now))
+        writer.old writer.new result }
 {
     let mut kept = WriteBuffer::new();
     put_verdict(
@@ -280,7 +285,8 @@ pub fn write_shown<W: TextSink>(
     requires version { version ≡ One → history.now.initial ≡ [] }
     ensures { Writes W.contents W.has_refused W.transition
         (text_of (said_in version history.now)
-        ++ verdict_text (claim_of history.now.initial (operations_of history.now.events) verdict.now)) writer.old writer.new result }
+        ++ verdict_text (claim_of history.now.initial (operations_of history.now.events) verdict.now))
+        writer.old writer.new result }
 {
     write_history(version, history, writer)?;
     write_verdict(history, verdict, writer)

@@ -146,7 +146,7 @@ pub all_left : {X : Type 0} (xs : List X) → left_of xs (replicate (length xs) 
 all_left [] = refl
 all_left (x ∷ xs) = ap (λ rest. x ∷ rest) (all_left xs)
 
--- an element that is left stands at a place whose flag isn't set
+-- an element that is left is at a place whose flag isn't set
 pub place_left : {X : Type 0} (xs : List X) (taken : List Bool) (i : ℕ) (x : X) → slice_get (left_of xs taken) i ≡ Some x
     → (p : ℕ) × (slice_get xs p ≡ Some x) × (slice_get taken p ≡ Some false)
 place_left [] taken i x at = cc
@@ -245,7 +245,7 @@ sorted_by_time number values n entries sorted so_far all permutes rises =
       has_each = λ place m at less. are.has_each place m (let within = slice_get_within values place m at in omega (arith, within, all)) at less;
     }
 
--- an entry before the cursor is taken, so one that is left stands at or after it
+-- an entry before the cursor is taken, so one that is left is at or after it
 stands_after : (taken : List Bool) (entries : List Timed) (i k : ℕ) (timed : Timed) → All (IsTaken taken) (take i entries)
     → slice_get entries k ≡ Some timed → IsLeft taken timed → i ≤ k
 stands_after taken entries i k timed before at flag = elim (cases_lt k i) [

@@ -243,7 +243,7 @@ kept_rises {X} {Y} h key key' (x ∷ xs) keeps rises = join (kept_rises h key ke
 
 -- ---- lists without repetition
 
--- no element stands twice
+-- no element is there twice
 abbrev pub NoneTwice : {X : Type 0} → List X → Type 0
 NoneTwice [] = ⊤
 NoneTwice (x ∷ xs) = ¬ (Contains xs x) × NoneTwice xs

@@ -64,7 +64,7 @@ module _ (lives : List Life) (i : ℕ) (life : Life) (at : slice_get lives i ≡
   dequeues_more : dequeues_of (take (i + 1) lives) ≡ dequeues_of (take i lives) ++ cons_option (dequeue_of life) []
   dequeues_more = ap dequeues_of (take_next lives i life at) ∙ filter_map-append dequeue_of (take i lives) (life ∷ [])
 
--- what is known when a value has its turn: its origin, the position of its dequeue, and the gap of its enqueue
+-- the facts at a value's turn: its origin, the position of its dequeue, and the gap of its enqueue
 pub record IsTurn (history : Contents) (lives : List Life) (i : ℕ) (m : MatchedValue) (gap : ℕ) : Type 0 where
   pub few : length history.initial ≤ MAX_INITIAL
   pub order : IsValueOrder (on (timeline_of history)) lives
@@ -212,7 +212,7 @@ module _ (history : Contents) (lives : List Life) (j : ℕ) (m : MatchedValue) (
 
 -- ---- three lists merged into one
 
--- in a list of rising positions, no later position stands before an earlier one
+-- in a list of rising positions, no later position comes before an earlier one
 none_later : (at : ℕ → Position) (count i : ℕ) (p : Position) → ((i j : ℕ) → i < j → j < count → StandsBefore (at i) (at j))
     → ((n : ℕ) × (i ≤ n) × (n < count) × (p ≡ at n)) → ¬ (StandsBefore p (at i))
 none_later at count i p rise (n, above, within, is) before =
@@ -222,17 +222,17 @@ none_later at count i p rise (n, above, within, is) before =
       | inr here ↦ let same : n ≡ i = omega arith in not_itself (at i) (subst (λ k. StandsBefore (at k) (at i)) same there)
     ]
 
--- no enqueue that is left stands before the next
+-- no enqueue that is left comes before the next
 pub next_enqueue : (lives : List Life) (i : ℕ) (p : Position) → IsEnqueueFrom lives i p → ¬ (StandsBefore p (enqueue_position lives i))
 next_enqueue lives i p from = none_later (enqueue_position lives) (length lives) i p
     (enqueues_rise (length lives) (enqueue_gap lives) (dequeue_gap lives) (are_gaps lives)) from
 
--- no dequeue that is left stands before the next
+-- no dequeue that is left comes before the next
 pub next_dequeue : (lives : List Life) (j : ℕ) (p : Position) → IsDequeueFrom lives j p → ¬ (StandsBefore p (dequeue_position lives j))
 next_dequeue lives j p from = none_later (dequeue_position lives) (length lives) j p
     (dequeues_rise (length lives) (enqueue_gap lives) (dequeue_gap lives) (are_gaps lives)) from
 
--- no no-op that is left stands before the next
+-- no no-op that is left comes before the next
 pub next_noop : (noops : List Placed) (k : ℕ) (x : Placed) (p : Position) → NeverFall noops → slice_get noops k ≡ Some x → IsNoopFrom noops k p
     → ¬ (StandsBefore p (position_of x.position))
 next_noop noops k x p never at (n, y, above, at_n, is) before =
@@ -245,10 +245,10 @@ next_noop noops k x p never at (n, y, above, at_n, is) before =
           not_itself (position_of x.position) (subst (λ z. StandsBefore (position_of z.position) (position_of x.position)) one there)
     ]
 
--- one more operation, which no operation ahead stands before
+-- one more operation, which no operation ahead comes before
 module _ (history : Contents) (lives : List Life) (noops : List Placed) (i j left k : ℕ) (places : List ℕ)
     (merged : IsMergedUpTo history lives noops i j left k places) where
-  -- the merged list grows by an operation which no operation ahead stands before
+  -- the merged list grows by an operation which no operation ahead comes before
   grown : (i' j' left' k' : ℕ) (x : Placed) (values' : List Placed) → HoldsUpTo history lives i' j' left' values'
       → IsPermutation ((merged.values ++ take k noops) ++ x ∷ []) (values' ++ take k' noops) → IsAhead lives noops i j k (position_of x.position)
       → ((p : Position) → IsAhead lives noops i' j' k' p → IsAhead lives noops i j k p × ¬ (StandsBefore p (position_of x.position)))
@@ -341,7 +341,7 @@ nothing_merged history lives noops = record {
   places_are = refl;
 }
 
--- an operation that doesn't stand after the limit has none before it if nothing stands before the limit
+-- an operation that doesn't come after the limit has none before it if nothing comes before the limit
 pub below_next : (Is : Position → Type 0) (limit : Option Stored) (x : Stored) (told : Bool)
     → MatchOption limit (told ≡ false) (λ q. IsTrue told ↔ StandsBefore (position_of q) (position_of x)) → told ≡ false
     → NoneBelow Is limit → NoneBelow Is (Some x)
@@ -349,7 +349,7 @@ below_next Is None x told tells not none p is = absurd (none p is)
 below_next Is (Some q) x told tells not none p is =
     through p (position_of q) (position_of x) (none p is) (λ before. let yes : told ≡ true = tells.1 before in cc)
 
--- nothing stands before the limit if nothing stands before an operation that stands after it
+-- nothing comes before the limit if nothing comes before an operation that comes after it
 pub below_limit : (Is : Position → Type 0) (limit : Option Stored) (x : Stored) (told : Bool)
     → MatchOption limit (told ≡ false) (λ q. IsTrue told ↔ StandsBefore (position_of q) (position_of x)) → told ≡ true
     → NoneBelow Is (Some x) → NoneBelow Is limit

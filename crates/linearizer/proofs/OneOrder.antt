@@ -124,11 +124,11 @@ chosen_order_is_legal operations order clear none chosen = legal operations orde
 
 -- ---- there is exactly one chosen order
 
--- two positions are equal, or one stands before the other
+-- two positions are equal, or one comes before the other
 compared : (p q : Position) → StandsBefore p q ⊎ ((p ≡ q) ⊎ StandsBefore q p)
 compared p q = grind arith
 
--- the second of two operations with their positions doesn't stand before the first
+-- the second of two operations with their positions doesn't come before the first
 abbrev NotAfter : Operation × Position → Operation × Position → Type 0
 NotAfter x y = ¬ (StandsBefore y.1 x.1)
 
@@ -262,7 +262,7 @@ position_along c d agree _ o (Deq v) p at = at
 position_along c d agree _ o Empty p at = (at.0, least_of c d agree o at.0 at.1, at.2)
 position_along c d agree _ o (Not v) p at = at
 
--- x and y have positions, and that of x stands before that of y
+-- x and y have positions, and that of x comes before that of y
 abbrev AreBefore : Course → List Life → Operation → Operation → Type 0
 AreBefore c lives x y = (p : Position) × (q : Position) × IsPositionOf c lives x p × IsPositionOf c lives y q × StandsBefore p q
 
@@ -452,7 +452,7 @@ module _ (history : Contents) (clear : IsClear (course_of history)) where
     | inr above ↦ let same : p ≡ q = omega arith in omega (arith, ap (λ k. (read k).call) same)
   ]
 
-  -- sorted by gap and place, none stands before an earlier one
+  -- sorted by gap and place, none comes before an earlier one
   pub noops_never_fall : (sorted : List Timed) → length history.operations ≤ MAX_MATCHED
       → All (λ timed. IsCalledInRange history.operations timed.place) sorted → IsNonDecreasingBy (λ timed. PLACES * timed.time + timed.place) sorted
       → NeverFall (map (noop_at history.operations) sorted)

@@ -1,4 +1,4 @@
--- What the positions of the operations imply. At a free gap each value that has entered has left, and so has each
+-- Consequences of the operations' positions. At a free gap each value that has entered has left, and so has each
 -- value before it.
 use Rattle.linearizer.proofs.Common.{[], AllZip, ap, AreLeastFreeGaps, arith, call_or_never, cases_lt, Contains}
 use Rattle.linearizer.proofs.Common.{contains_cons, Deq, dequeue_call, dequeue_gap, dequeue_of, dequeue_position}

@@ -7,11 +7,11 @@ use Rattle.linearizer.proofs.Common.{slice_get, Some, StandsBefore, subst, suc, 
 use Rattle.linearizer.proofs.Common.{◌≡◌, ◌≤◌}
 use Rattle.history_merge.proofs.Lists.{with_one_more, AllPairs-tail}
 
--- of two positions at most one stands before the other
+-- at most one of two positions is before the other
 pub not_both : (p r : Position) → StandsBefore p r → StandsBefore r p → ⊥
 not_both p r before after = grind arith
 
--- a position doesn't stand before itself
+-- a position doesn't come before itself
 pub not_itself : (p : Position) → StandsBefore p p → ⊥
 not_itself p before = grind arith
 
@@ -31,7 +31,7 @@ enqueue_at enter i = record { gap = enter i; class = enqueues; rank = i }
 abbrev pub dequeue_at : (ℕ → ℕ) → (ℕ → ℕ) → ℕ → Position
 dequeue_at enter leave i = record { gap = leave i; class = (if nat_lt (enter i) (leave i) then earlier_dequeues else other_dequeues); rank = i }
 
--- at no later gap and class, the lower rank stands before the higher
+-- at no later gap and class, the lower rank comes before the higher
 pub by_rank : (p r : Position) → p.gap ≤ r.gap → p.class ≤ r.class → p.rank < r.rank → StandsBefore p r
 by_rank p r le also less = grind arith
 
@@ -42,19 +42,19 @@ pub record AreGaps (n : ℕ) (enter leave : ℕ → ℕ) : Type 0 where
   pub enters_first : (i : ℕ) → i < n → enter i ≤ leave i
 
 module _ (n : ℕ) (enter leave : ℕ → ℕ) (gaps : AreGaps n enter leave) where
-  -- the enqueue of an earlier value stands before that of a later one
+  -- the enqueue of an earlier value comes before that of a later one
   pub enqueues_rise : (i j : ℕ) → i < j → j < n → StandsBefore (enqueue_at enter i) (enqueue_at enter j)
   enqueues_rise i j below within = let le = gaps.enter_rises i j (omega arith) within in
       by_rank (enqueue_at enter i) (enqueue_at enter j) le (omega arith) below
 
-  -- the dequeue of an earlier value stands before that of a later one
+  -- the dequeue of an earlier value comes before that of a later one
   pub dequeues_rise : (i j : ℕ) → i < j → j < n → StandsBefore (dequeue_at enter leave i) (dequeue_at enter leave j)
   dequeues_rise i j below within =
       let enters = gaps.enter_rises i j (omega arith) within in
       let leaves = gaps.leave_rises i j (omega arith) within in
       grind (arith, nat_tests)
 
-  -- the enqueue of a value stands before its dequeue
+  -- the enqueue of a value comes before its dequeue
   pub enqueued_before_dequeued : (i : ℕ) → i < n → StandsBefore (enqueue_at enter i) (dequeue_at enter leave i)
   enqueued_before_dequeued i within = let le = gaps.enters_first i within in grind (arith, nat_tests)
 
@@ -81,7 +81,7 @@ IsItem n enter leave Holds Leaves (Not v) position = position.class ≡ noop_ans
 past_first : (p x : Position) (xs : List Position) → ¬ (x ≡ p) → Contains (x ∷ xs) p → Contains xs p
 past_first p x xs differs among = elim (contains_cons x xs p among) [ inl same ↦ absurd (differs same) | inr there ↦ there ]
 
--- in a rising list no position stands before the first
+-- in a rising list no position comes before the first
 none_sooner : (x q : Position) (xs : List Position) → All (StandsBefore x) xs → Contains (x ∷ xs) q → ¬ (StandsBefore q x)
 none_sooner x q xs rises among before = elim (contains_cons x xs q among) [
   | inl same ↦ not_itself x (subst (λ y. StandsBefore y x) (sym same) before)

@@ -54,7 +54,7 @@ turn_of (life ∷ rest) (suc i) (suc j) x y each le at_x at_y =
       among = λ z among. one_deeper life rest z (turn.among z among);
     }
 
--- ---- each value may stand before those after it in the order of values
+-- ---- each value may come before those after it in the order of values
 
 -- the enqueues put x before y, the dequeues y before x
 abbrev pub IsOpposite : Life → Life → Type 0
@@ -72,7 +72,7 @@ module _ (operations : List Operation) (clear : IsClear (on operations)) (none :
       let times_y = times_of_life operations y clear is_y in
       none_overtakes operations x y clear none is_x is_y (omega arith)
 
-  -- the choice may stand before all that remain
+  -- the choice may come before all that remain
   pub choice_may_stand_before : (remaining : List Life) (choice other : Life) → ((x : Life) → Contains remaining x → IsLife (on operations) x)
       → IsChoice remaining choice → Contains remaining other → MayStandBefore choice other
   choice_may_stand_before remaining choice other are is among =
@@ -106,7 +106,7 @@ pub stands_in_order : (operations : List Operation) (lives : List Life) → IsCl
 stands_in_order operations lives clear order x is = Contains-permutation (lives_of operations) lives x order.holds_each_once
     (life_is_contained operations x clear is)
 
--- each value may stand before those after it
+-- each value may come before those after it
 pub may_stand_before : (operations : List Operation) (lives : List Life) (i j : ℕ) (x y : Life) → IsClear (on operations) → NoOrderViolation (on operations)
     → IsValueOrder (on operations) lives → i ≤ j → slice_get lives i ≡ Some x → slice_get lives j ≡ Some y → MayStandBefore x y
 may_stand_before operations lives i j x y clear none order le at_x at_y =

@@ -45,7 +45,7 @@ pub(crate) fn by_time(alloc: Global, values: &Values) -> Result<ByTime, AllocErr
 
 /// Sorts the values by their times.
 ///
-/// Takes O(n) time for n values if each stands near its sorted place, otherwise O(n log n).
+/// Takes O(n) time for n values if each is near its sorted place, otherwise O(n log n).
 fn sorted(timed: Vec<PackedTimed>) -> Vec<PackedTimed>
     ensures permutation { IsPermutation timed.items result.items }
     ensures never_falls { IsNonDecreasingBy (λ timed. timed.time) result.items }

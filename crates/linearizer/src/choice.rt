@@ -85,8 +85,10 @@ fn choice(values: &Values, first_in: Timed, first_out: Timed) -> usize
 /// is never late.
 fn is_late(values: &Values, next: usize, first_in: Timed) -> bool
     requires next { next < length values.now }
-    requires in_time { (m : MatchedValue) → slice_get values.now first_in.place ≡ Some m → enqueue_call m.life ≤ first_in.time }
-    ensures { (m : MatchedValue) → slice_get values.now next ≡ Some m → IsTrue result ↔ (first_in.time < enqueue_call m.life) }
+    requires in_time { (m : MatchedValue) → slice_get values.now first_in.place ≡ Some m
+        → enqueue_call m.life ≤ first_in.time }
+    ensures { (m : MatchedValue) → slice_get values.now next ≡ Some m
+        → IsTrue result ↔ (first_in.time < enqueue_call m.life) }
 {
     next != first_in.place && first_in.time < values.get(next).life.enqueue_call()
 }

@@ -80,7 +80,7 @@ impl<'a> Noops<'a> {
         }
     }
 
-    /// Returns whether the no-op at index `at` stands after a position; false if none is given. Mostly the gaps
+    /// Returns whether the no-op at index `at` comes after a position; false if none is given. Mostly the gaps
     /// decide.
     #[inline(always)]
     pub(crate) fn is_after(&self, at: usize, position: Option<Position>) -> bool
@@ -99,7 +99,7 @@ impl<'a> Noops<'a> {
 }
 
 /// Returns the empty dequeues, at the gaps after these tickets, and the failed enqueues, in rising order of position.
-/// Those of one gap stand in the order of their calls, which is that of their places.
+/// Those of one gap are in the order of their calls, which is that of their places.
 pub(crate) fn noops_of<'a>(
     alloc: Global,
     matching: &'a Matching,
@@ -128,7 +128,8 @@ fn add_empties(
     requires few { length matching.now.operations ≤ MAX_MATCHED }
     requires clear { IsClear (course_of matching.now) }
     requires gaps { AreLeastFreeGaps (course_of matching.now) (map time_of gaps.now) }
-    ensures { OnOk result (Adds matching.now (filter is_empty_answer (timed matching.now.operations)) noops.old.items noops.new.items) }
+    ensures { OnOk result
+        (Adds matching.now (filter is_empty_answer (timed matching.now.operations)) noops.old.items noops.new.items) }
 {
     let empties = matching.empties();
     for at in 0..empties.len() {
@@ -144,7 +145,8 @@ fn add_empties(
 #[tactic(auto, using(crate::proofs::Elements::adds_none))]
 fn add_refused(noops: &mut Vec<PackedTimed>, matching: &Matching) -> Result<(), AllocError>
     requires { IsClear (course_of matching.now) }
-    ensures { OnOk result (Adds matching.now (filter is_refused (timed matching.now.operations)) noops.old.items noops.new.items) }
+    ensures { OnOk result
+        (Adds matching.now (filter is_refused (timed matching.now.operations)) noops.old.items noops.new.items) }
 {
     let operations = matching.operations();
     let refused = matching.refused();

@@ -14,7 +14,7 @@ use value_match::Matching;
 /// Returns the chosen linearization (Herlihy and Wing 1990) of a history without violations, as places in
 /// `matching.operations()`. It follows the order of the values, and the queue holds the initial values first.
 ///
-/// An operation at a lower gap stands before one at a higher gap; gap `c` is the time between tickets `c` and `c +
+/// An operation at a lower gap comes before one at a higher gap; gap `c` is the time between tickets `c` and `c +
 /// 1`. `gaps` has the least free gap of each empty dequeue, in the order of their calls.
 ///
 /// The call takes a word for each empty dequeue and failed enqueue, and half a word for each operation. Its time

@@ -2,7 +2,8 @@ ghost use Rattle.std.specs.Prelude.{◌≡◌, ℕ, [], IfOk, List, OnOk, length
 ghost use Rattle.history_merge.specs.Initial.{Contents};
 ghost use Rattle.value_match.specs.declared.life.Life.{Life};
 ghost use Rattle.linearizer.specs.Inner.Placement.{IsOrderOf, NeverFall, ordered_lives, place_of};
-ghost use Rattle.linearizer.specs.Inner.Merging.{IsDequeueFrom, IsEnqueueFrom, IsNoopFrom, IsMerge, IsMergedUpTo, IsValueFrom, NoneBelow};
+ghost use Rattle.linearizer.specs.Inner.Merging.{IsDequeueFrom, IsEnqueueFrom, IsNoopFrom};
+ghost use Rattle.linearizer.specs.Inner.Merging.{IsMerge, IsMergedUpTo, IsValueFrom, NoneBelow};
 
 use crate::noops::Noops;
 use crate::position::Position;
@@ -40,7 +41,7 @@ pub(crate) struct Merged {
     pub(crate) noops: usize,
 }
 
-/// Adds the enqueues in the order of the values, each after the other operations that stand before it.
+/// Adds the enqueues in the order of the values, each after the other operations that come before it.
 fn place_enqueues(
     places: &mut Vec<OpId>,
     matching: &Matching,
@@ -82,8 +83,8 @@ fn place_of(source: Source) -> Option<OpId>
     }
 }
 
-/// Adds the next dequeues in the order of the values, each after the no-ops that stand before it. Stops at the first
-/// dequeue that stands after `before`, if that is given.
+/// Adds the next dequeues in the order of the values, each after the no-ops that come before it. Stops at the first
+/// dequeue that comes after `before`, if that is given.
 #[inline(always)]
 fn place_dequeues(
     places: &mut Vec<OpId>,
@@ -129,7 +130,7 @@ fn place_dequeues(
     Ok(())
 }
 
-/// Adds the next no-ops. Stops at the first that stands after `before`, if that is given.
+/// Adds the next no-ops. Stops at the first that comes after `before`, if that is given.
 #[inline(always)]
 fn place_noops(
     places: &mut Vec<OpId>,
@@ -138,7 +139,8 @@ fn place_noops(
     before: Option<Position>,
 ) -> Result<(), AllocError>
     requires { NeverFall noops.now }
-    ensures adds { OnOk result ((history : Contents) (lives : List Life) (i j left : ℕ) → NoneBelow (IsValueFrom lives i j) before
+    ensures adds { OnOk result
+        ((history : Contents) (lives : List Life) (i j left : ℕ) → NoneBelow (IsValueFrom lives i j) before
         → IsMergedUpTo history lives noops.now i j left count.old places.old.items
         → IsMergedUpTo history lives noops.now i j left count.new places.new.items) }
     ensures up_to { OnOk result (NoneBelow (IsNoopFrom noops.now count.new) before) }

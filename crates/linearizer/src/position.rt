@@ -57,9 +57,10 @@ impl Position {
         }
     }
 
-    /// Returns whether this position stands after another; false if none is given.
+    /// Returns whether this position comes after another; false if none is given.
     pub(crate) fn stands_after(self, other: Option<Position>) -> bool
-        ensures { MatchOption other (result ≡ false) (λ p. IsTrue result ↔ StandsBefore (position_of p) (position_of self)) }
+        ensures { MatchOption other (result ≡ false) (λ p. IsTrue result
+            ↔ StandsBefore (position_of p) (position_of self)) }
     {
         match other {
             Some(other) => other < self,

@@ -188,7 +188,7 @@ first_of values side candidates x is among first = record {
   first = first;
 }
 
--- of the first candidates of two lists, the one dequeued no later than both is the first of all
+-- a candidate dequeued no later than the first ones of two lists is the first of all
 pub sooner_is_first : (values low high side : List MatchedValue) (a b r : MatchedValue) → IsFirstOvertaking values low a → IsFirstOvertaking values high b
     → IsFirstOvertaking values side r → Contains (low ++ high) r → dequeue_return r.life ≤ dequeue_return a.life
     → dequeue_return r.life ≤ dequeue_return b.life → IsFirstOvertaking values (low ++ high) r

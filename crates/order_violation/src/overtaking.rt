@@ -11,7 +11,8 @@ use value_match::{Life, LongestTable, MatchedValue, Values};
 ///
 /// If each is the first that overtakes among some candidates, the result is the first among all of them.
 pub fn first_of(first: Option<MatchedValue>, second: Option<MatchedValue>) -> Option<MatchedValue>
-    ensures { (values xs ys : List MatchedValue) → FindsFirst values xs first → FindsFirst values ys second → FindsFirst values (xs ++ ys) result }
+    ensures { (values xs ys : List MatchedValue) → FindsFirst values xs first → FindsFirst values ys second
+        → FindsFirst values (xs ++ ys) result }
 {
     match (first, second) {
         (None, found) => found,
@@ -38,7 +39,8 @@ pub(crate) fn overtakes(b: &Life, a: &Life) -> bool
 /// Returns the longest of the values that entered before b, if b overtakes it. Otherwise b overtakes none.
 #[inline(always)]
 pub(crate) fn if_overtaken(b: &Life, longest: Option<MatchedValue>) -> Option<MatchedValue>
-    ensures { (values : List MatchedValue) → FindsLongest (EntersBefore (enqueue_call b.now)) values longest → FindsLongest (Overtakes b.now) values result }
+    ensures { (values : List MatchedValue) → FindsLongest (EntersBefore (enqueue_call b.now)) values longest
+        → FindsLongest (Overtakes b.now) values result }
 {
     let a = longest?;
     let left = b.dequeue_return();

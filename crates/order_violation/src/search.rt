@@ -54,7 +54,8 @@ fn pair_of(a: MatchedValue, b: MatchedValue) -> Option<OrderPair>
 /// Returns the longest-staying value that b overtakes, if there is one. `dequeue` is the place of b's dequeue.
 fn longest_among(matching: &Matching, b: &Life, dequeue: &Option<OpId>) -> Option<MatchedValue>
     requires { IsMaybeOperation matching.now.operations dequeue.now (dequeue_of b.now) }
-    ensures { (values : List MatchedValue) × IsClear (course_of matching.now) × HoldsValues matching.now values × FindsLongest (Overtakes b.now) values result }
+    ensures { (values : List MatchedValue) × IsClear (course_of matching.now) × HoldsValues matching.now values
+        × FindsLongest (Overtakes b.now) values result }
 {
     let values = matching.values();
     let mut longest: Option<MatchedValue> = None;

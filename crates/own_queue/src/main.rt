@@ -1,8 +1,8 @@
-//! A test of a queue of one's own: workers run a plan on it, and it writes what they did, with the verdict, as texts
-//! that `fifobench` reads.
+//! A test of a queue of one's own. It runs a plan of workers on the queue, and writes the history and the verdict as
+//! texts that `fifobench` reads.
 //!
-//! `own_queue [WORKERS [OPERATIONS [SEED]]]`: how many workers run, each in a thread of its own, how many operations
-//! each of them makes, and the seed of the plan. The status is 0 for a `YES` and 1 for a `NO`.
+//! `own_queue [WORKERS [OPERATIONS [SEED]]]` takes the number of workers, each in a thread of its own, the number of
+//! operations of each worker, and the seed of the plan. The status is 0 for a `YES` and 1 for a `NO`.
 #![tactic(auto)]
 
 ghost use Rattle.std.specs.Prelude.{◌≡◌, []};
@@ -19,25 +19,25 @@ use std::process::ExitCode;
 use std::{env, io};
 use two_stacks::TwoStacks;
 
-/// The number of workers, if no other is given.
+/// The default number of workers.
 const WORKERS: u64 = 4;
 
-/// The number of operations of each worker, if no other is given.
+/// The default number of operations of each worker.
 const OPERATIONS: u64 = 1000;
 
-/// The seed of the plan, if no other is given.
+/// The default seed of the plan.
 const SEED: u64 = 1;
 
-/// How many of a hundred operations are enqueues.
+/// The percentage of enqueues.
 const PERCENT: u8 = 50;
 
 /// The capacity of each worker's ring, in events.
 const RING: usize = 1024;
 
-/// How often a push into a full ring is tried.
+/// The number of tries of a push into a full ring.
 const TRIES: u32 = 1_000_000;
 
-/// Returns the number that a word says, or another one if there is no word.
+/// Parses the number of a word, or returns `other` if there is no word.
 fn number_or(word: Option<String>, other: u64) -> Result<u64> {
     match word {
         Some(word) => Ok(word.parse::<u64>()?),
@@ -45,7 +45,7 @@ fn number_or(word: Option<String>, other: u64) -> Result<u64> {
     }
 }
 
-/// Judges the history of a queue that was empty at first, and writes it with the verdict.
+/// Judges the history of a queue that was empty at first, and writes it with its verdict.
 fn show<R: Print>(rt: &R, alloc: Global, history: &History) -> Result<Verdict>
     requires { history.now.initial ≡ [] }
 {

@@ -4,7 +4,8 @@ use std::alloc::Global;
 use std::mem::swap;
 use std::sync::{Mutex, Wait};
 
-/// Values that were enqueued on one stack, the last on top, and on the other those to be dequeued next, the first on top.
+/// The values in the queue: those enqueued lately on one stack, the last on top, and those to be dequeued next on the
+/// other, the first on top.
 #[derive(Drop)]
 struct Stacks {
     inbox: Vec<u64>,
@@ -50,7 +51,7 @@ impl<R: Wait + Drop> TwoStacks<R> {
 impl<R: Wait + Drop + Send + Sync> TestQueue for TwoStacks<R> {
     ghost use Rattle.fifobench_core.specs.Answers.{AnswersInKind, TakesOrRefuses};
 
-    // Any answer of the question's kind.
+    // any answer of the question's kind
     ghost may = { λ _. AnswersInKind };
 
     ghost may_preload = { λ _ _. TakesOrRefuses };

@@ -32,11 +32,13 @@ pub(crate) fn windows_at_par<R: Threads + Sync>(
     let some = pieces / 2;
     let others = pieces - some;
     let left = || -> Result<WindowsAnswer, AllocError>
-        requires { IsSync R.row × All (IsEmptyAnswerAt matching.now.operations) low × AreSpansOf (course_of matching.now) spans.now }
+        requires { IsSync R.row × All (IsEmptyAnswerAt matching.now.operations) low
+            × AreSpansOf (course_of matching.now) spans.now }
         ensures { IfOk result (λ windows. AreWindowsAt (course_of matching.entry.now) low.entry windows) }
     { windows_at_par(rt, alloc, matching, spans, &low, some) };
     let right = || -> Result<WindowsAnswer, AllocError>
-        requires { IsSync R.row × All (IsEmptyAnswerAt matching.now.operations) high × AreSpansOf (course_of matching.now) spans.now }
+        requires { IsSync R.row × All (IsEmptyAnswerAt matching.now.operations) high
+            × AreSpansOf (course_of matching.now) spans.now }
         ensures { IfOk result (λ windows. AreWindowsAt (course_of matching.entry.now) high.entry windows) }
     { windows_at_par(rt, alloc, matching, spans, &high, others) };
     let (first, second) = join(rt, left, right);

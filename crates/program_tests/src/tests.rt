@@ -1,4 +1,4 @@
-//! What the built program can't show on files: the cases that it can stand in extras/answers.
+//! Tests of the program that need more than files. All other cases are in extras/answers.
 mod inputs;
 mod recorded;
 mod stressing;
@@ -12,7 +12,7 @@ use std::io;
 use std::sync::Wait;
 use std::thread::Threads;
 
-/// What a run of the program, called by this line, writes, and its status.
+/// Runs the program with this command line, and returns its output and its status.
 fn run<'a, R: AllocGlobal + Threads + Wait + Sync, S: TextSource + Drop>(
     rt: &R,
     line: &'a str,
@@ -34,7 +34,7 @@ fn run<'a, R: AllocGlobal + Threads + Wait + Sync, S: TextSource + Drop>(
     Ok((writer.into_inner(), status))
 }
 
-/// Whether a run of the program, called by this line, writes this text and ends with this status.
+/// Returns whether a run of the program with this command line writes this text and ends with this status.
 fn answers<'a, R: AllocGlobal + Threads + Wait + Sync, S: TextSource + Drop>(
     rt: &R,
     line: &'a str,

@@ -1,9 +1,9 @@
-//! A queue that breaks the order only if threads overlap. This program judges runs of it, one seed after another,
-//! until a verdict is a `NO`.
+//! A queue that violates the FIFO order only if threads overlap. This program judges runs of it, one seed after
+//! another, until a verdict is a `NO`.
 //!
-//! `racy_queue [WORKERS]`: the number of workers, each of which runs in a thread of its own. The program writes the
-//! history of the first run whose verdict is a `NO`, with the verdict, and then a history of the violation's operations
-//! alone, with its verdict: texts that `fifobench` reads. Then the status is 1; if no run shows a violation, it is 0.
+//! `racy_queue [WORKERS]` takes the number of workers, each in a thread of its own. It writes the history of the first
+//! run whose verdict is a `NO`, with that verdict, and then a history of the violation's operations alone, with its
+//! verdict. These are texts that `fifobench` reads. The status is then 1. It is 0 if no run has a violation.
 #![tactic(auto)]
 
 ghost use Rattle.std.specs.Prelude.{◌≡◌, []};
@@ -21,10 +21,10 @@ use std::process::ExitCode;
 use std::thread::Threads;
 use std::{env, io};
 
-/// The number of workers, if no other is given.
+/// The default number of workers.
 const WORKERS: u64 = 4;
 
-/// The number of seeds, from 1 on.
+/// The number of seeds to try, from 1 on.
 const SEEDS: u64 = 100;
 
 /// The number of operations of each worker.
@@ -33,14 +33,13 @@ const OPERATIONS: usize = 4000;
 /// The capacity of each worker's ring, in events.
 const RING: usize = 1024;
 
-/// The share of enqueues among the operations, in percent: less than half, so that the queue is often empty or nearly
-/// so.
+/// The percentage of enqueues. It is below 50, so that the queue is often empty or nearly so.
 const PERCENT: u8 = 40;
 
-/// How often a push into a full ring is tried.
+/// The number of tries of a push into a full ring.
 const TRIES: u32 = 1_000_000;
 
-/// Returns the number of workers that the arguments name, or the usual one.
+/// Returns the number of workers that the arguments name, or the default one.
 fn asked_workers(rt: HostRuntime) -> Result<u64> {
     match env::args(&rt)?.nth(1) {
         Some(word) => Ok(word.parse::<u64>()?),
@@ -48,8 +47,8 @@ fn asked_workers(rt: HostRuntime) -> Result<u64> {
     }
 }
 
-/// Whether the history of a queue that was empty at first shows a violation. If so, writes it with its verdict, and
-/// then the violation's operations alone.
+/// Returns whether the history of a queue that was empty at first has a violation. If so, writes it with its verdict,
+/// and then the violation's operations alone.
 fn shows_violation<R: Print>(rt: &R, alloc: Global, history: &History) -> Result<bool>
     requires { history.now.initial ≡ [] }
 {
@@ -74,7 +73,7 @@ fn plan_of(alloc: Global, workers: u64, seed: u64) -> Result<Plan> {
     Ok(plan)
 }
 
-/// Whether a run of this plan on the queue shows a violation, which is then written.
+/// Returns whether a run of this plan on the queue has a violation, which is then written.
 fn shows_in_run<R>(rt: &R, queue: &dyn TestQueue, plan: &Plan) -> Result<bool>
 where
     R: AllocGlobal + Print + Threads + Sync,

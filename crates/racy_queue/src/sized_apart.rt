@@ -5,7 +5,7 @@ use std::collections::VecDeque;
 use std::sync::atomic::{AtomicU64, Ordering};
 use std::sync::{Mutex, Wait};
 
-/// A list under a lock, and its size beside it.
+/// A list under a lock, and its size outside the lock.
 #[derive(Drop)]
 pub struct SizedApart<R: Wait + Drop> {
     rt: R,
@@ -38,7 +38,7 @@ impl<R: Wait + Drop> SizedApart<R> {
 impl<R: Wait + Drop + Send + Sync> TestQueue for SizedApart<R> {
     ghost use Rattle.fifobench_core.specs.Answers.{AnswersInKind, TakesOrRefuses};
 
-    // Any answer of the question's kind.
+    // any answer of the question's kind
     ghost may = { λ _. AnswersInKind };
 
     ghost may_preload = { λ _ _. TakesOrRefuses };

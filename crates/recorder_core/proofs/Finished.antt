@@ -1,4 +1,4 @@
--- Whether a machine is done, by its threads.
+-- A machine is done if its threads are.
 use Rattle.std.proofs.Common.{◌≡◌, ℕ, zero, suc, Bool, true, List, [], ◌∷◌, length, Option, Some, None, refl, sym, ap, ◌∙◌, arith}
 use Rattle.std.proofs.lemmas.Bool.{and_parts, and_from, eqb-true, eq-eqb}
 use Rattle.std.specs.List.{slice_get, list_all}

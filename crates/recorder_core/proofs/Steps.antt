@@ -1,4 +1,4 @@
--- How a machine takes each step.
+-- The machine after each kind of step.
 use Rattle.std.proofs.Common.{◌≡◌, ℕ, ◌+◌, ◌<◌, ◌≤◌, min, Bool, true, false, cond, List, [], ◌∷◌, ◌++◌}
 use Rattle.std.proofs.Common.{length, take, drop, set, get_or, Option, None}
 use Rattle.std.proofs.Common.{Some, Result, Ok, Err, refl, sym, ap, ◌∙◌, subst, inl, inr, arith, ltb, leb}

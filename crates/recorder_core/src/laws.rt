@@ -13,7 +13,8 @@ ghost use Rattle.recorder_core.specs.declared.step.StepRefused.TheVariants.{Clos
 ghost use Rattle.recorder_core.specs.Initial.{AreInitialNames};
 ghost use Rattle.recorder_core.specs.Setting.{Setting};
 ghost use Rattle.recorder_core.specs.Schedule.{Attempt, accepted, refusal, answer_to, thread_of, queue};
-ghost use Rattle.recorder_core.specs.Laws.{IsPrefix, events_in, collected_in, IsDone, NeedsOpenThread, ReturnsBeforeAsk, StandsBefore, collected_lists};
+ghost use Rattle.recorder_core.specs.Laws.{IsPrefix, events_in, collected_in, IsDone, NeedsOpenThread};
+ghost use Rattle.recorder_core.specs.Laws.{ReturnsBeforeAsk, StandsBefore, collected_lists};
 ghost use Rattle.history_merge.specs.Complete.{IsCompleteHistory};
 ghost use Rattle.history_merge.specs.Merge.{IsMerged};
 ghost use Rattle.recorder_core.specs.Replay.{AreRecorded, Replays, IsHonest, effect_kinds, effects_order};
@@ -44,7 +45,8 @@ pub fn nothing_after_close()
 /// comes first.
 pub fn precedence_as_ticketed()
     ensures operations { (setting : Setting) (schedule : List Attempt) (merged : List Event) (x y : Operation)
-        → IsMerged (collected_lists setting schedule) merged → Contains (operations_of merged) x → Contains (operations_of merged) y
+        → IsMerged (collected_lists setting schedule) merged → Contains (operations_of merged) x
+        → Contains (operations_of merged) y
         → Precedes x y ↔ ReturnsBeforeAsk setting schedule x y }
     ensures events { (setting : Setting) (schedule : List Attempt) (t u : ℕ) (first second : Event)
         → Contains (collected_in setting schedule t) first → Contains (collected_in setting schedule u) second
@@ -55,7 +57,8 @@ pub fn precedence_as_ticketed()
 /// the schedule's queue.
 pub fn effects_are_accepted()
     ensures { (setting : Setting) (schedule : List Attempt)
-        → accept_all setting.initial (effect_kinds setting (accepted setting schedule)) ≡ Some (queue setting (accepted setting schedule)) }
+        → accept_all setting.initial (effect_kinds setting (accepted setting schedule))
+        ≡ Some (queue setting (accepted setting schedule)) }
 {}
 
 /// Proves that recorded lists replay: for every capacity of the rings, and any initial values of the queue, there is

@@ -69,7 +69,8 @@ impl Machine {
     pub fn new(alloc: Global, threads: usize, ring: usize) -> Result<Machine, AllocError>
         requires threads { (1 ≤ threads) × (threads ≤ MAX_THREADS) }
         requires ring { (MIN_RING ≤ ring) × (ring ≤ MAX_RING) }
-        ensures { IfOk result (λ machine. IsAfter (record { threads = threads; ring = ring; initial = [] }) machine []) }
+        ensures { IfOk result
+            (λ machine. IsAfter (record { threads = threads; ring = ring; initial = [] }) machine []) }
     {
         Machine::with_initial(alloc, threads, ring, Vec::new(alloc))
     }
@@ -85,7 +86,8 @@ impl Machine {
         requires threads { (1 ≤ threads) × (threads ≤ MAX_THREADS) }
         requires ring { (MIN_RING ≤ ring) × (ring ≤ MAX_RING) }
         requires initial { AreInitialNames initial.items }
-        ensures { IfOk result (λ machine. IsAfter (record { threads = threads; ring = ring; initial = initial.items }) machine []) }
+        ensures { IfOk result
+            (λ machine. IsAfter (record { threads = threads; ring = ring; initial = initial.items }) machine []) }
     {
         let mut list = Vec::with_capacity(alloc, threads)?;
         for _ in 0..threads {

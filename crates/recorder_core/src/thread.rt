@@ -1,8 +1,10 @@
 //! One thread of the machine.
-ghost use Rattle.std.specs.Prelude.{◌≡◌, ◌+◌, ◌<◌, true, false, nat_le, min, IfOk, OnOk, OnErr, None, Some, [], ◌∷◌, ◌++◌, length, find, take, drop};
+ghost use Rattle.std.specs.Prelude.{◌≡◌, ◌+◌, ◌<◌, true, false, nat_le, min, IfOk, OnOk, OnErr};
+ghost use Rattle.std.specs.Prelude.{None, Some, [], ◌∷◌, ◌++◌, length, find, take, drop};
 ghost use Rattle.std.specs.Result.{result_err};
-ghost use Rattle.recorder_core.specs.declared.step.StepRefused.TheVariants.{Closed, Held, NothingHeld, RingFull, Pending as PendingRefused};
-ghost use Rattle.recorder_core.specs.declared.step.StepRefused.TheVariants.{NotPending, NoAnswer, AnswerTaken, Memory};
+ghost use Rattle.recorder_core.specs.declared.step.StepRefused.TheVariants.{Closed, Held, NothingHeld, RingFull};
+ghost use Rattle.recorder_core.specs.declared.step.StepRefused.TheVariants.{Pending as PendingRefused, NotPending};
+ghost use Rattle.recorder_core.specs.declared.step.StepRefused.TheVariants.{NoAnswer, AnswerTaken, Memory};
 ghost use Rattle.recorder_core.specs.Inner.Seen.{seen, none_other, when_pushing, given_answer, is_thread_done};
 ghost use Rattle.recorder_core.specs.After.{is_out_of_memory};
 ghost use Rattle.recorder_core.specs.Schedule.{with_last};
@@ -42,7 +44,8 @@ impl Model for Thread {
 impl Thread {
     /// Makes a thread before its first step.
     pub(crate) fn new(alloc: Global) -> Thread
-        ensures { result ≡ record { closed = false; asked = 0; pending = None; held = None; ring = []; collected = [] } }
+        ensures { result
+            ≡ record { closed = false; asked = 0; pending = None; held = None; ring = []; collected = [] } }
     {
         Thread {
             closed: false,
@@ -125,8 +128,10 @@ impl Thread {
     /// Appends the held event to the ring.
     pub(crate) fn push(&mut self, capacity: usize) -> Result<(), StepRefused>
         ensures refused { let full = nat_le capacity (length self.old.ring) in result_err result
-            ≡ find (seen self.old (when_pushing full (is_out_of_memory result))) (Closed ∷ NothingHeld ∷ RingFull ∷ Memory ∷ []) }
-        ensures ok { OnOk result (self.new ≡ record self.old { held = None; ring = with_last self.old.ring self.old.held }) }
+            ≡ find (seen self.old (when_pushing full (is_out_of_memory result)))
+            (Closed ∷ NothingHeld ∷ RingFull ∷ Memory ∷ []) }
+        ensures ok { OnOk result
+            (self.new ≡ record self.old { held = None; ring = with_last self.old.ring self.old.held }) }
         ensures err { OnErr result (self.new ≡ self.old) }
     {
         self.open()?;
@@ -170,7 +175,8 @@ impl Thread {
 
     /// Returns the answer with which the pending operation may return.
     pub(crate) fn answered(&self) -> Result<Answer, StepRefused>
-        ensures refused { result_err result ≡ find (seen self.now none_other) (Closed ∷ Held ∷ NotPending ∷ NoAnswer ∷ []) }
+        ensures refused { result_err result
+            ≡ find (seen self.now none_other) (Closed ∷ Held ∷ NotPending ∷ NoAnswer ∷ []) }
         ensures ok { IfOk result (λ answer. given_answer self.now.pending ≡ Some answer) }
     {
         self.free()?;

@@ -1,4 +1,4 @@
-//! What is answered of a history.
+//! The answers about a history.
 ghost use Rattle.std.specs.Prelude.{IfOk};
 ghost use Rattle.history_merge.specs.Operations.{operations_of};
 ghost use Rattle.claims.specs.Claiming.{IsWithin};
@@ -18,7 +18,8 @@ use verdicts::{
     shrink, verify,
 };
 
-/// A history with the answer that it gets, the lines of its verdict, and its operations if it is shrunk.
+/// A history with its expected answer, the lines of its verdict, and the operations of the history that it is shrunk
+/// to.
 #[derive(Drop)]
 struct Case<'a> {
     operations: &'a [Operation],
@@ -28,7 +29,7 @@ struct Case<'a> {
     kept: &'a [Operation],
 }
 
-/// Compares what is answered of one history.
+/// Compares the answers about one history.
 fn compare<R: Abort + AllocGlobal + Threads + Sync>(rt: &R, case: &Case) -> Result<(), Fail> {
     let history = history_of(rt.alloc(), case.operations)?;
     assert!(rt; is_decided(rt.alloc(), &history, case)?, "decided");
@@ -44,14 +45,14 @@ fn compare<R: Abort + AllocGlobal + Threads + Sync>(rt: &R, case: &Case) -> Resu
     Ok(())
 }
 
-/// Whether a history gets the verdict that its case wants, and is shrunk as that wants.
+/// Returns whether a history gets the verdict of its case, and is shrunk as in its case.
 fn is_decided(alloc: Global, history: &History, case: &Case) -> Result<bool, AllocError> {
     let verdict = decided(alloc, history)?;
     let is_wanted = is_claim_wanted(alloc, history, &verdict, case)?;
     Ok(is_wanted && is_shrunk(alloc, history, &verdict, case.kept)?)
 }
 
-/// Whether it gets that verdict by searches in pieces.
+/// Returns whether a history gets that verdict by searches in pieces.
 fn is_decided_in_pieces<R: AllocGlobal + Threads + Sync>(
     rt: &R,
     history: &History,
@@ -61,7 +62,7 @@ fn is_decided_in_pieces<R: AllocGlobal + Threads + Sync>(
     is_claim_wanted(rt.alloc(), history, &verdict, case)
 }
 
-/// Whether what a verdict claims is what a case wants.
+/// Returns whether the claim of a verdict is that of a case.
 fn is_claim_wanted(
     alloc: Global,
     history: &History,
@@ -74,7 +75,7 @@ fn is_claim_wanted(
     Ok(is_wanted(case, &claimed))
 }
 
-/// Whether the history of a violation alone keeps these operations; a linearizable one keeps none.
+/// Returns whether the history of the violation alone keeps these operations. A linearizable history keeps none.
 fn is_shrunk(
     alloc: Global,
     history: &History,
@@ -92,7 +93,7 @@ fn is_shrunk(
     }
 }
 
-/// An empty answer while first one value and then another was in the queue.
+/// An empty dequeue during which first one value and then another was in the queue.
 #[test]
 fn of_a_covered_empty_answer(rt: HostRuntime) -> Result<(), Fail> {
     let (enq_7, empty) = (by(0, Enq(7), 0, 1), by(1, Empty, 2, 9));
@@ -127,7 +128,7 @@ fn of_values_out_of_order(rt: HostRuntime) -> Result<(), Fail> {
     compare(&rt, &case)
 }
 
-/// An empty answer at the one gap at which the queue may have been empty.
+/// An empty dequeue with one gap at which the queue may have been empty.
 #[test]
 fn of_a_legal_order(rt: HostRuntime) -> Result<(), Fail> {
     let (enq_7, empty, deq_7) = (by(0, Enq(7), 0, 1), by(1, Empty, 2, 9), by(2, Deq(7), 4, 5));
@@ -141,7 +142,7 @@ fn of_a_legal_order(rt: HostRuntime) -> Result<(), Fail> {
     compare(&rt, &case)
 }
 
-/// The verdict on a history.
+/// Returns the verdict on a history.
 pub(crate) fn decided(alloc: Global, history: &History) -> Result<Verdict, AllocError>
     ensures chosen { IfOk result (λ verdict. IsVerdict history.now.initial (operations_of history.now.events) verdict) }
     ensures places { IfOk result (λ verdict. IsWithin history.now.initial (operations_of history.now.events) verdict) }
@@ -152,7 +153,7 @@ pub(crate) fn decided(alloc: Global, history: &History) -> Result<Verdict, Alloc
     }
 }
 
-/// The verdict on a history by searches in pieces.
+/// Returns the verdict on a history by searches in pieces.
 fn decided_in_pieces<R: AllocGlobal + Threads + Sync>(
     rt: &R,
     history: &History,
@@ -165,7 +166,7 @@ fn decided_in_pieces<R: AllocGlobal + Threads + Sync>(
     }
 }
 
-/// What a verdict claims.
+/// Returns the claim of a verdict.
 fn claim_of(alloc: Global, history: &History, verdict: &Verdict) -> Result<Claimed, AllocError>
     requires { IsWithin history.now.initial (operations_of history.now.events) verdict.now }
 {
@@ -175,7 +176,7 @@ fn claim_of(alloc: Global, history: &History, verdict: &Verdict) -> Result<Claim
     }
 }
 
-/// Whether a claim is the one that a case wants.
+/// Returns whether a claim is that of a case.
 fn is_wanted(case: &Case, claimed: &Claimed) -> bool {
     match claimed {
         Claimed::Yes(lines) => case.kind.is_none() && lines.as_slice() == case.lines,
@@ -185,7 +186,7 @@ fn is_wanted(case: &Case, claimed: &Claimed) -> bool {
     }
 }
 
-/// Whether the lines show these operations, one by one.
+/// Returns whether the lines list these operations, one by one.
 fn are_operations(lines: &[ClaimLine], operations: &[Operation]) -> bool {
     for (line, operation) in lines.iter().zip(operations) {
         if *line != ClaimLine::Op(*operation) {
@@ -195,7 +196,7 @@ fn are_operations(lines: &[ClaimLine], operations: &[Operation]) -> bool {
     lines.len() == operations.len()
 }
 
-/// Lines that show these operations.
+/// Returns lines that list these operations.
 fn lines_of(alloc: Global, operations: &[Operation]) -> Result<ClaimLines, AllocError> {
     let lines = operations
         .iter()
@@ -204,7 +205,7 @@ fn lines_of(alloc: Global, operations: &[Operation]) -> Result<ClaimLines, Alloc
     Ok(ClaimLines::from_vec(lines))
 }
 
-/// Whether these lines are evidence of this kind in a history.
+/// Returns whether these lines are evidence of this kind in a history.
 fn is_evidence(
     alloc: Global,
     history: &History,
@@ -218,7 +219,7 @@ fn is_evidence(
     verify(alloc, history, &claimed)
 }
 
-/// Whether it is evidence; asked once more if memory ran out.
+/// Does so, and once more if memory ran out.
 fn is_evidence_again(
     alloc: Global,
     history: &History,
@@ -231,7 +232,7 @@ fn is_evidence_again(
     }
 }
 
-/// The history of a violation alone.
+/// Returns the history of a violation alone.
 fn shrunk(alloc: Global, history: &History, violation: &Violation) -> Result<History, AllocError>
     requires { IsChosenViolation history.now.initial (operations_of history.now.events) violation.now }
 {
@@ -241,7 +242,7 @@ fn shrunk(alloc: Global, history: &History, violation: &Violation) -> Result<His
     }
 }
 
-/// The operations that a smaller history keeps.
+/// Returns the operations that a smaller history keeps.
 fn kept(alloc: Global, history: &History) -> Result<Vec<Operation>, AllocError> {
     match history.operations().collect(alloc) {
         Ok(operations) => Ok(operations),

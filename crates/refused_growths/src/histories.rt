@@ -6,7 +6,7 @@ use history_merge::{History, HistoryFault, OpKind, Operation, history};
 use std::alloc::{AllocError, Global};
 use std::test::Fail;
 
-/// An operation of this thread, with the tickets of its call and its return.
+/// Returns an operation of this thread, with the tickets of its call and its return.
 pub(crate) fn by(thread: u8, kind: OpKind, call: u64, ret: u64) -> Operation {
     Operation {
         call,
@@ -16,7 +16,7 @@ pub(crate) fn by(thread: u8, kind: OpKind, call: u64, ret: u64) -> Operation {
     }
 }
 
-/// The call and the return of an operation.
+/// Returns the call and the return of an operation.
 fn events_of(operation: &Operation) -> [Event; 2] {
     let (called, answered) = match operation.kind {
         OpKind::Enq(value) => (What::CallEnq(value), What::RetEnq),
@@ -32,7 +32,7 @@ fn events_of(operation: &Operation) -> [Event; 2] {
     [at(operation.call, called), at(operation.ret, answered)]
 }
 
-/// The history of these operations, or none if memory runs out.
+/// Returns the history of these operations, or none if memory runs out.
 fn history_or_none(
     alloc: Global,
     operations: &[Operation],
@@ -53,7 +53,7 @@ fn history_or_none(
     }
 }
 
-/// The history of these operations.
+/// Returns the history of these operations.
 pub(crate) fn history_of(alloc: Global, operations: &[Operation]) -> Result<History, Fail>
     ensures { IfOk result (λ history. history.initial ≡ []) }
 {

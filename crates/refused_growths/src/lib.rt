@@ -1,7 +1,7 @@
-//! Calls and runs that meet a refused growth. The crate has tests alone.
+//! Calls and runs in which a growth is refused. The crate has only tests.
 //!
-//! Each test makes its calls until none of them is out of memory, so it compares the answer of ample memory too, and
-//! a growth is refused once at most. `extras/faults/tests` runs each test with its first growth refused, with its
+//! Each test repeats its calls until none of them is out of memory, so it also compares the answer with ample memory,
+//! and at most one growth is refused. `extras/faults/tests` runs each test with its first growth refused, with its
 //! second, and so on until none is.
 #![tactic(auto)]
 

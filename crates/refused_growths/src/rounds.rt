@@ -9,7 +9,7 @@ use std::alloc::{AllocError, Global};
 use std::test::Fail;
 use tickets::Tickets;
 
-/// The calls of a thread's first two operations, which enqueue.
+/// Returns the calls of a thread's first two operations, which are enqueues.
 fn two_calls(alloc: Global, thread: ThreadNo) -> Result<(Noted, Noted), AllocError>
     ensures first { IfOk result (λ calls. calls.0.thread ≡ thread) }
     ensures second { IfOk result (λ calls. calls.1.thread ≡ thread) }
@@ -22,7 +22,7 @@ fn two_calls(alloc: Global, thread: ThreadNo) -> Result<(Noted, Noted), AllocErr
     ))
 }
 
-/// The call of thread 0's n-th operation, at ticket n.
+/// Returns the call of thread 0's n-th operation, at ticket n.
 fn call(n: u64) -> Event {
     Event {
         ticket: n,
@@ -31,7 +31,7 @@ fn call(n: u64) -> Event {
     }
 }
 
-/// A round of two events, or the one after it if that is refused.
+/// Runs a round of two events, and another if that is refused.
 fn drain_two(collector: &mut Collector) -> Result<u64, AllocError>
     ensures { rings_of collector.new.rings ≡ rings_of collector.old.rings }
 {
@@ -41,7 +41,7 @@ fn drain_two(collector: &mut Collector) -> Result<u64, AllocError>
     }
 }
 
-/// The events of the one ring, by its token.
+/// Returns the events of the only ring, sealed with its token.
 fn sealed(alloc: Global, collector: Collector, token: CloseToken) -> Result<Lists, AllocError>
     requires { rings_of collector.rings ≡ (token.ring, token.thread) ∷ [] }
 {
@@ -61,8 +61,8 @@ fn push_two(alloc: Global, push: &mut PushEnd, thread: ThreadNo) -> Result<bool,
     Ok(push.push(first).is_ok() && push.push(second).is_ok())
 }
 
-/// Whether a round gives both events of a ring, the first round or the one after a refused one, and the sealed list has
-/// both.
+/// Returns whether a round, the first or the one after a refused one, gives both events of a ring, and the sealed
+/// list has both.
 fn gives_both(alloc: Global, thread: ThreadNo) -> Result<bool, AllocError>
     requires { thread ≡ 0 }
 {
@@ -77,7 +77,7 @@ fn gives_both(alloc: Global, thread: ThreadNo) -> Result<bool, AllocError>
     Ok(drained == 2 && are_both(&lists))
 }
 
-/// Whether the one list has both events.
+/// Returns whether the only list has both events.
 fn are_both(lists: &Lists) -> bool {
     match lists.as_slice() {
         [events] => events.as_slice() == [call(0), call(1)].as_slice(),

@@ -11,11 +11,11 @@ use stress_run::{Recorded, RunFault, run};
 use verdicts::Verdict;
 use workloads::Plan;
 
-/// How often a push is tried: a refused round leaves the rings full, and the workers use all their tries up.
+/// The number of tries of a push. A refused round leaves the rings full, and then the workers use up all their tries.
 const TRIES: u32 = 20_000;
 
-/// Whether a run that gives no history may have this fault: it is out of memory; a ring gave no token; or, if a
-/// thread couldn't be started, a worker stalled.
+/// Returns whether a run without a history may have this fault: out of memory, a ring without a token, or a stalled
+/// worker if a thread couldn't be started.
 fn is_allowed(fault: RunFault) -> bool {
     match fault {
         RunFault::Memory => true,
@@ -24,14 +24,15 @@ fn is_allowed(fault: RunFault) -> bool {
     }
 }
 
-/// A queue that answers two workers from a table.
+/// Returns a queue that answers two workers from a table.
 fn script(alloc: Global) -> Result<ScriptQueue, AllocError> {
     let first = vec![in alloc; Entry::Taken, Entry::Got(0), Entry::Empty]?;
     let second = vec![in alloc; Entry::Empty, Entry::Taken, Entry::NotTaken]?;
     Ok(ScriptQueue::new(vec![in alloc; first, second]?))
 }
 
-/// A run of the plan of this text on a queue; if it fails, as it may, one on another queue, which may not fail.
+/// Runs the plan of this text on a queue. If that fails with an allowed fault, runs it on the other queue, which may
+/// not fail.
 fn recorded_of<R: Threads + Sync + Abort>(
     rt: &R,
     alloc: Global,
@@ -53,7 +54,7 @@ fn recorded_of<R: Threads + Sync + Abort>(
     }
 }
 
-/// Whether these are the events of a list, whatever their tickets.
+/// Returns whether these are the events of a list, apart from their tickets.
 fn are_events(list: &[Event], whats: &[What]) -> bool {
     for (event, what) in list.iter().zip(whats) {
         if event.what != *what {
@@ -63,7 +64,7 @@ fn are_events(list: &[Event], whats: &[What]) -> bool {
     list.len() == whats.len()
 }
 
-/// What the first worker of the script records.
+/// The events of the script's first worker.
 const FIRST: [What; 6] = [
     What::CallEnq(0),
     What::RetEnq,
@@ -73,7 +74,7 @@ const FIRST: [What; 6] = [
     What::RetEmpty,
 ];
 
-/// What the second one records.
+/// The events of the second one.
 const SECOND: [What; 6] = [
     What::CallDeq,
     What::RetEmpty,
@@ -83,7 +84,7 @@ const SECOND: [What; 6] = [
     What::RetNot,
 ];
 
-/// Whether these are the lists of the script.
+/// Returns whether these are the lists of the script.
 fn are_scripted(lists: &Lists) -> bool {
     match lists.as_slice() {
         [one, other] => are_events(one, &FIRST) && are_events(other, &SECOND),
@@ -102,7 +103,7 @@ fn a_scripted_run_is_recorded_or_fails(rt: HostRuntime) -> Result<(), Fail> {
     Ok(())
 }
 
-/// How many values of a list were not taken.
+/// Returns the number of failed enqueues of a list.
 fn refusals(list: &[Event]) -> usize {
     let mut count = 0usize;
     for event in list {
@@ -113,7 +114,7 @@ fn refusals(list: &[Event]) -> usize {
     count
 }
 
-/// Whether two workers' lists have this many values at most that were not taken.
+/// Returns whether two workers' lists have at most `most` failed enqueues.
 fn has_refusals(lists: &Lists, most: usize) -> bool {
     match lists.as_slice() {
         [one, other] => refusals(one).saturating_add(refusals(other)) <= most,
@@ -121,7 +122,7 @@ fn has_refusals(lists: &Lists, most: usize) -> bool {
     }
 }
 
-/// The history of a run.
+/// Returns the history of a run.
 fn history_of(alloc: Global, recorded: &Recorded) -> Result<History, AllocError> {
     match recorded.history(alloc) {
         Ok(history) => Ok(history),
@@ -129,7 +130,7 @@ fn history_of(alloc: Global, recorded: &Recorded) -> Result<History, AllocError>
     }
 }
 
-/// Whether a run's history has this many operations and is linearizable.
+/// Returns whether a run's history has this many operations and is linearizable.
 fn is_linearizable(
     alloc: Global,
     recorded: &Recorded,
@@ -145,7 +146,7 @@ fn a_run_over_a_growing_queue_is_legal_or_fails(rt: HostRuntime) -> Result<(), F
     let queue = LockedQueue::new(rt.alloc(), rt);
     let other = LockedQueue::new(rt.alloc(), rt);
     let recorded = recorded_of(&rt, rt.alloc(), &queue, &other, "EED\nEED\n", 64)?;
-    // The queue takes all values, but for one whose growth is refused.
+    // All enqueues succeed, except one whose growth is refused.
     assert!(rt; has_refusals(recorded.lists(), 1));
     assert!(rt; is_linearizable(rt.alloc(), &recorded, 6)?);
     Ok(())

@@ -54,7 +54,8 @@ pub fn simulate(
     requires ring { (MIN_RING ≤ ring) × (ring ≤ MAX_RING) }
     ensures rejections { IfOk result (λ played. played.rejections
         ≡ rejections (record { threads = threads; ring = ring; initial = [] }) (schedule_of steps.now)) }
-    ensures ending { IfOk result (λ played. EndsSo (record { threads = threads; ring = ring; initial = [] }) (schedule_of steps.now) played.ending) }
+    ensures ending { IfOk result (λ played. EndsSo (record { threads = threads; ring = ring; initial = [] })
+        (schedule_of steps.now) played.ending) }
 {
     let mut machine = Machine::new(alloc, threads, ring)?;
     let rejections = take_all(alloc, &mut machine, steps)?;
@@ -64,8 +65,10 @@ pub fn simulate(
 
 /// Takes the steps in order, and returns those that are refused.
 fn take_all(alloc: Global, machine: &mut Machine, steps: &[Step]) -> Result<Rejections, AllocError>
-    ensures after { OnOk result ((setting : Setting) → IsAfter setting machine.old [] → IsAfter setting machine.new (schedule_of steps.now)) }
-    ensures rejected { IfOk result (λ rejected. (setting : Setting) → IsAfter setting machine.old [] → rejected ≡ rejections setting (schedule_of steps.now)) }
+    ensures after { OnOk result
+        ((setting : Setting) → IsAfter setting machine.old [] → IsAfter setting machine.new (schedule_of steps.now)) }
+    ensures rejected { IfOk result (λ rejected. (setting : Setting) → IsAfter setting machine.old []
+        → rejected ≡ rejections setting (schedule_of steps.now)) }
     ensures threads { length machine.new.threads ≡ length machine.old.threads }
 {
     let mut rejections = Vec::new(alloc);
@@ -80,7 +83,8 @@ fn take_all(alloc: Global, machine: &mut Machine, steps: &[Step]) -> Result<Reje
 
 /// Takes one step, and returns the reason if it is refused.
 fn refusal_of(machine: &mut Machine, step: Step) -> Result<Option<StepRefused>, AllocError>
-    ensures refused { IfOk result (λ refused. (setting : Setting) (schedule : List Attempt) → IsAfter setting machine.old schedule
+    ensures refused { IfOk result
+        (λ refused. (setting : Setting) (schedule : List Attempt) → IsAfter setting machine.old schedule
         → refused ≡ result_err (answer_to setting schedule (tried step))) }
     ensures after { OnOk result ((setting : Setting) (schedule : List Attempt) → IsAfter setting machine.old schedule
         → IsAfter setting machine.new (tried step ∷ schedule)) }
@@ -97,7 +101,8 @@ fn refusal_of(machine: &mut Machine, step: Step) -> Result<Option<StepRefused>, 
 fn ending_of(alloc: Global, machine: &Machine, threads: usize) -> Result<Ending, AllocError>
     requires threads { length machine.now.threads ≡ threads }
     requires few { threads ≤ MAX_THREADS }
-    ensures { IfOk result (λ ending. (setting : Setting) (schedule : List Attempt) → IsAfter setting machine.now schedule
+    ensures { IfOk result
+        (λ ending. (setting : Setting) (schedule : List Attempt) → IsAfter setting machine.now schedule
         → EndsSo setting schedule ending) }
 {
     if machine.done() {

@@ -2,7 +2,8 @@
 ghost use Rattle.std.specs.Prelude.{◌≡◌, ◌++◌, ◌≤◌, ◌^◌, OnOk, IfOk, IfSome};
 ghost use Rattle.svg_picture.specs.Markup.{text_of};
 ghost use Rattle.svg_picture.specs.Layout.{page_on};
-ghost use Rattle.svg_picture.specs.Picture.{mark, number_words, tickets_words, bar_words, pill, bar_number, bar_frame, marked_bar, bar, bars};
+ghost use Rattle.svg_picture.specs.Picture.{mark, number_words, tickets_words, bar_words, pill};
+ghost use Rattle.svg_picture.specs.Picture.{bar_number, bar_frame, marked_bar, bar, bars};
 
 use crate::elements::{push_open_rect, push_rect, push_text_at};
 use crate::layout::{bar_end, bar_width, number_x, row_y, thread_x};
@@ -150,7 +151,8 @@ pub(crate) fn push_marked_bar(
     requires height { bar.height ≤ 2 ^ 92 }
     requires base { bar.base ≤ 2 ^ 92 }
     requires place { IfSome bar.place (λ place. place ≤ MOST_DRAWN) }
-    ensures { OnOk result (text.new.items ≡ text.old.items ++ text_of (marked_bar m class.now title.now label.now bar)) }
+    ensures { OnOk result
+        (text.new.items ≡ text.old.items ++ text_of (marked_bar m class.now title.now label.now bar)) }
 {
     push_start(text, b"g", &[Words(b"class", class)])?;
     push_element(text, b"title", &[], title)?;

@@ -1,7 +1,8 @@
 //! The elements of a picture.
 ghost use Rattle.std.specs.Prelude.{◌≡◌, ◌+◌, ◌*◌, ◌++◌, ◌≤◌, ◌^◌, OnOk, codes, length};
 ghost use Rattle.svg_picture.specs.Markup.{text_of, start_tag, tag_attributes, Pattern};
-ghost use Rattle.svg_picture.specs.Elements.{text_at, rect, open_rect, stroke, line_at, lines_at, sample, samples, hatch};
+ghost use Rattle.svg_picture.specs.Elements.{text_at, rect, open_rect, stroke, line_at};
+ghost use Rattle.svg_picture.specs.Elements.{lines_at, sample, samples, hatch};
 
 use crate::lines::split_line;
 use crate::markup::Attribute::{Number, Words};
@@ -73,7 +74,8 @@ pub(crate) fn push_open_rect(
     requires y { at.1 ≤ 2 ^ 92 }
     requires wide { size.0 ≤ 2 ^ 92 }
     requires high { size.1 ≤ 2 ^ 92 }
-    ensures { OnOk result (text.new.items ≡ text.old.items ++ text_of (open_rect class.now round at.0 at.1 size.0 size.1)) }
+    ensures { OnOk result
+        (text.new.items ≡ text.old.items ++ text_of (open_rect class.now round at.0 at.1 size.0 size.1)) }
 {
     let window = [
         Number(b"width", at.0 + size.0 + 6),

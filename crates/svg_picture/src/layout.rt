@@ -120,7 +120,8 @@ pub(crate) fn bottom(m: Measures) -> u128
     top(m) + 20 * (m.rows as u128 + 1)
 }
 
-/// Returns the lower edge of the bar of an operation: in the row of its return, or at the end of its lane if it is pending.
+/// Returns the lower edge of the bar of an operation: in the row of its return, or at the end of its lane if it is
+/// pending.
 pub(crate) fn bar_end(sheet: &Sheet<'_>, operation: Operation) -> u128
     ensures value { result ≡ bar_end (page_on sheet.now) operation }
     ensures small { result ≤ 2 ^ 92 }

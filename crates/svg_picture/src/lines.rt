@@ -8,7 +8,8 @@ use std::alloc::{AllocError, Global};
 
 /// Returns the bytes before the first line feed, and those after it.
 pub(crate) fn split_line(bytes: &[u8]) -> Option<(&[u8], &[u8])>
-    ensures parts { MatchOption result (parts bytes.now ≡ bytes.now ∷ []) (λ p. parts bytes.now ≡ p.0.now ∷ parts p.1.now) }
+    ensures parts { MatchOption result (parts bytes.now ≡ bytes.now ∷ [])
+        (λ p. parts bytes.now ≡ p.0.now ∷ parts p.1.now) }
     ensures less { IfSome result (λ p. length p.1.now < length bytes.now) }
 {
     for (i, b) in bytes.iter().enumerate() {

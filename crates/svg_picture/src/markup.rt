@@ -44,7 +44,8 @@ pub(crate) fn push_number(text: &mut Vec<u8>, number: u128) -> Added
 }
 
 fn push_named(text: &mut Vec<u8>, name: &[u8], value: &[u8]) -> Added
-    ensures { OnOk result (text.new.items ≡ text.old.items ++ attribute_text (record { name = name.now; value = plain_words value.now })) }
+    ensures { OnOk result (text.new.items ≡ text.old.items
+        ++ attribute_text (record { name = name.now; value = plain_words value.now })) }
 {
     text.extend_from_slice(b" ")?;
     text.extend_from_slice(name)?;
@@ -101,7 +102,8 @@ pub(crate) fn push_element(
     attributes: &[Attribute<'_>],
     words: &[u8],
 ) -> Added
-    ensures { OnOk result (text.new.items ≡ text.old.items ++ (start_tag name.now (map named attributes.now) ++ (plain_words words.now ++ end_tag name.now))) }
+    ensures { OnOk result (text.new.items ≡ text.old.items
+        ++ (start_tag name.now (map named attributes.now) ++ (plain_words words.now ++ end_tag name.now))) }
 {
     push_start(text, name, attributes)?;
     push_plain(text, words)?;

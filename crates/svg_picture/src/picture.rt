@@ -5,7 +5,8 @@ ghost use Rattle.drawing.specs.Scene.{scene_on};
 ghost use Rattle.drawing.specs.Captions.{caption};
 ghost use Rattle.svg_picture.specs.Markup.{text_of};
 ghost use Rattle.svg_picture.specs.Layout.{page_on};
-ghost use Rattle.svg_picture.specs.Picture.{about, heading, inside, measures_of, page_content, page_of, svg_picture, view_box};
+ghost use Rattle.svg_picture.specs.Picture.{about, heading, inside, measures_of};
+ghost use Rattle.svg_picture.specs.Picture.{page_content, page_of, svg_picture, view_box};
 
 use crate::bars::push_bars;
 use crate::beside::push_bands;

@@ -2,7 +2,8 @@
 ghost use Rattle.std.specs.Prelude.{◌≡◌, ◌++◌, ◌≤◌, ◌^◌, OnOk, IfOk};
 ghost use Rattle.svg_picture.specs.Markup.{text_of};
 ghost use Rattle.svg_picture.specs.Layout.{page_on};
-ghost use Rattle.svg_picture.specs.Picture.{initial_words, placed_initial, way_at, in_tickets, effect, row_own, row_parts, rows, names};
+ghost use Rattle.svg_picture.specs.Picture.{initial_words, placed_initial, way_at, in_tickets};
+ghost use Rattle.svg_picture.specs.Picture.{effect, row_own, row_parts, rows, names};
 
 use crate::bars::{Bar, mark, push_marked_bar, push_number_words, push_pill};
 use crate::elements::{push_stroke, push_text_at};
@@ -32,7 +33,8 @@ fn initial_words(alloc: Global, value: u64, place: Option<usize>) -> Result<Vec<
 #[tactic(auto, unfolding(crate::specs::Picture::placed_initial))]
 fn push_initial(text: &mut Vec<u8>, sheet: &Sheet<'_>, y: u128, row: Row, value: u64) -> Added
     requires { y ≤ 2 ^ 91 }
-    ensures { OnOk result (text.new.items ≡ text.old.items ++ text_of (placed_initial (page_on sheet.now) y row value)) }
+    ensures { OnOk result
+        (text.new.items ≡ text.old.items ++ text_of (placed_initial (page_on sheet.now) y row value)) }
 {
     let place = place_in(shown_by(sheet.scene.claimed), row);
     let class = mark(sheet.scene.claimed, false, place);

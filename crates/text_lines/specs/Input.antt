@@ -2,7 +2,7 @@
 use Rattle.std.specs.Prelude.{◌≡◌, ℕ, ◌<◌, List, [], ◌++◌, length, take, ⊤, Option, None, Some, MatchResult}
 use Rattle.std.specs.declared.result.Result.{Result}
 
--- how the bytes of a source end: there are no more, or a read fails
+-- the end of a source's bytes: there are no more, or a read fails
 pub data Ending : Type 0 where
   EndOfInput : Ending
   Failure : Ending
@@ -12,7 +12,7 @@ pub record Ahead : Type 0 where
   pub bytes : List ℕ
   pub ending : Ending
 
--- what is known about the bytes ahead: nothing; these bytes, unless a read fails before their end; or all of it
+-- the knowledge of the bytes ahead: none; these bytes, unless a read fails before their end; or all of it
 pub data Known : Type 0 where
   Unknown : Known
   UnlessFailed : List ℕ → Known
@@ -48,7 +48,7 @@ abbrev pub ReadGives : {E : Type 0} → Known → Known → Result ℕ E → Lis
 ReadGives old new r piece = MatchResult r (λ n. Gives old new (take n piece) × (n ≡ 0 → 0 < length piece → MayGive new (over EndOfInput)))
     (λ _. Gives old new [] × MayGive new (over Failure))
 
--- what is known about the bytes that a reader of std has left
+-- the knowledge of the bytes that a reader of std has left
 abbrev pub known_of : Option (List ℕ) → Known
 known_of None = Unknown
 known_of (Some bytes) = UnlessFailed bytes

@@ -57,7 +57,8 @@ impl<S: TextSink> Buffered<S> {
     fn pass_on(&mut self) -> Result<(), WriteFault>
         ensures empty { OnOk result (self.new.kept ≡ []) }
         ensures room { OnOk result (self.new.room ≡ 4096) }
-        ensures bytes { Keeps (append_known (S.contents self.old.inner) self.old.kept) (append_known (S.contents self.new.inner) self.new.kept) }
+        ensures bytes { Keeps (append_known (S.contents self.old.inner) self.old.kept)
+            (append_known (S.contents self.new.inner) self.new.kept) }
         ensures refused { S.has_refused self.new.inner ≡ (S.has_refused self.old.inner || is_err result) }
         ensures written { OnOk result (IsWritten S.transition self.old.inner self.new.inner) }
         ensures stopped { OnErr result (IsRefused S.transition self.old.inner self.new.inner) }
@@ -76,7 +77,8 @@ impl<S: TextSink> Buffered<S> {
     /// Makes room for a byte. If there is none, all bytes that are held back are written.
     fn make_room(&mut self) -> Result<(), WriteFault>
         ensures room { OnOk result (0 < self.new.room) }
-        ensures bytes { Keeps (append_known (S.contents self.old.inner) self.old.kept) (append_known (S.contents self.new.inner) self.new.kept) }
+        ensures bytes { Keeps (append_known (S.contents self.old.inner) self.old.kept)
+            (append_known (S.contents self.new.inner) self.new.kept) }
         ensures refused { S.has_refused self.new.inner ≡ (S.has_refused self.old.inner || is_err result) }
         ensures written { OnOk result (IsWritten S.transition self.old.inner self.new.inner) }
         ensures stopped { OnErr result (IsRefused S.transition self.old.inner self.new.inner) }

@@ -23,7 +23,8 @@ const HIGH_BITS: u64 = 0x8080_8080_8080_8080;
 /// fours, and fours to eight.
 #[inline(always)]
 fn value_of_digits(word: u64) -> u64
-    ensures { (digits : List ℕ) → IsEightDigits digits → word ≡ from_le_bytes w64 digits → result ≡ number_from_digits 10 digits }
+    ensures { (digits : List ℕ) → IsEightDigits digits → word ≡ from_le_bytes w64 digits
+        → result ≡ number_from_digits 10 digits }
 {
     let pairs = word.wrapping_mul(10).wrapping_add(word >> 8);
     let outer = (pairs & 0xff_0000_00ff).wrapping_mul(100 + (1_000_000 << 32));

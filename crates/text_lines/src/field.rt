@@ -76,7 +76,8 @@ pub(crate) fn number_between(
 
 /// Splits bytes at their first space.
 pub fn split_field(bytes: &[u8]) -> Option<(&[u8], &[u8])>
-    ensures { MatchOption result (fields_of bytes.now ≡ bytes.now ∷ []) (λ p. fields_of bytes.now ≡ p.0.now ∷ fields_of p.1.now) }
+    ensures { MatchOption result (fields_of bytes.now ≡ bytes.now ∷ [])
+        (λ p. fields_of bytes.now ≡ p.0.now ∷ fields_of p.1.now) }
 {
     for (i, b) in bytes.iter().enumerate() {
         if *b == b' ' {

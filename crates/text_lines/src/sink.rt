@@ -17,9 +17,9 @@ pub enum WriteFault {
 
 /// A sink to which texts are written.
 ///
-/// Beside what std's `Write` has, contracts see whether the sink has refused bytes, and the outcome of each call. If
-/// they saw the bytes alone, a body that always returns a failed write would meet every contract of a writer, and so
-/// would one that never flushes.
+/// In addition to what std's `Write` has, contracts see whether the sink has refused bytes, and the outcome of each
+/// call. If they saw the bytes alone, a body that always returns a failed write would meet every contract of a
+/// writer, and so would one that never flushes.
 pub trait TextSink {
     /// The bytes that the sink took, if they are known.
     ghost contents: { Self → Option (List ℕ) };

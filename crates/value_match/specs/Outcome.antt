@@ -1,4 +1,4 @@
--- What a violation names, and the results of matching.
+-- The operations that a violation names, and the results of matching.
 use Rattle.std.specs.Prelude.{◌≡◌, ℕ, All, List, Option, Some, length, map, option_map, slice_get}
 use Rattle.std.specs.List.{AllZip}
 use Rattle.history_merge.specs.declared.operation.Operation.{Operation}

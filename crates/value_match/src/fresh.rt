@@ -1,4 +1,5 @@
-ghost use Rattle.std.specs.Prelude.{◌≡◌, ◌||◌, ◌↔◌, ◌<◌, ◌≤◌, nat_lt, if◌then◌else◌, IsTrue, IfSome, MatchOption, None, length};
+ghost use Rattle.std.specs.Prelude.{◌≡◌, ◌||◌, ◌↔◌, ◌<◌, ◌≤◌, nat_lt, if◌then◌else◌};
+ghost use Rattle.std.specs.Prelude.{IsTrue, IfSome, MatchOption, None, length};
 ghost use Rattle.history_merge.specs.declared.operation.Operation.{Operation};
 ghost use Rattle.history_merge.specs.Complete.{AreComplete};
 ghost use Rattle.history_merge.specs.Operations.{IsAt};
@@ -69,7 +70,8 @@ fn is_fresh(operations: &[PackedOperation], place: usize, source: MaybePlace) ->
 #[inline(always)]
 pub(crate) fn comes_too_soon(operations: &[PackedOperation], deq: Operation, source: usize) -> bool
     requires { source < length operations.now }
-    ensures { (call : Operation) → IsAt operations.now source call → result ≡ (is_refused call || nat_lt deq.ret call.call) }
+    ensures { (call : Operation) → IsAt operations.now source call
+        → result ≡ (is_refused call || nat_lt deq.ret call.call) }
 {
     let call = operations[source].unpack();
     matches!(call.kind, OpKind::Not(_)) || deq.ret < call.call

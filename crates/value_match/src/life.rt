@@ -2,7 +2,8 @@ ghost use Rattle.std.specs.Prelude.{◌≡◌, ◌≤◌, ◌↔◌, IsTrue};
 ghost use Rattle.value_match.specs.declared.life.TheConstants.{NEVER};
 ghost use Rattle.value_match.specs.Times.{ticket_of};
 ghost use Rattle.value_match.specs.Choice.{StaysAtLeast};
-ghost use Rattle.value_match.specs.Lives.{enqueue_call, enqueue_return, dequeue_call, dequeue_return, entered_by, leaves_from};
+ghost use Rattle.value_match.specs.Lives.{enqueue_call, enqueue_return, dequeue_call};
+ghost use Rattle.value_match.specs.Lives.{dequeue_return, entered_by, leaves_from};
 ghost use Rattle.value_match.specs.Fronts.{IsLongerOf};
 
 use event_records::{MAX_TIME, ORIGIN};

@@ -50,7 +50,8 @@ impl<'a> Model for Matching<'a> {
 
     ghost view = { λ a. record { initial = a.history.now.initial; operations = operations_of a.history.now.events } };
 
-    ghost invariant = { λ a. IsSortedOutOf (timeline a.history.now.initial (operations_of a.history.now.events)) a.sorted };
+    ghost invariant = { λ a.
+        IsSortedOutOf (timeline a.history.now.initial (operations_of a.history.now.events)) a.sorted };
 }
 
 impl<'a> Matching<'a> {

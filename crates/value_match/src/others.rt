@@ -69,7 +69,8 @@ fn bounds_of(wanted: &BTreeSet<u64>) -> Bounds
 #[inline(always)]
 fn wanted_call(wanted: &BTreeSet<u64>, bounds: Bounds, operation: &PackedOperation) -> Option<u64>
     requires { AreBounds wanted.now bounds }
-    ensures { MatchOption result (CallsNoneOf wanted.now operation.now) (λ v. (enqueued_value operation.now.kind ≡ Some v) × (contains nat_cmp wanted.now v ≡ true)) }
+    ensures { MatchOption result (CallsNoneOf wanted.now operation.now)
+        (λ v. (enqueued_value operation.now.kind ≡ Some v) × (contains nat_cmp wanted.now v ≡ true)) }
 {
     let value = operation.value();
     if value < bounds.least || bounds.greatest < value {
@@ -82,7 +83,8 @@ fn wanted_call(wanted: &BTreeSet<u64>, bounds: Bounds, operation: &PackedOperati
 /// Returns the place of a call to enqueue this value among calls sorted by value, if there is one.
 pub(crate) fn place_among(calls: &[Call], value: u64) -> Option<usize>
     requires { IsNonDecreasingBy (λ call. call.value) calls.now }
-    ensures { MatchOption result (NoneOf calls.now value) (λ place. Contains calls.now (record { value = value; place = place })) }
+    ensures { MatchOption result (NoneOf calls.now value)
+        (λ place. Contains calls.now (record { value = value; place = place })) }
 {
     let below = calls.partition_point(|call| call.value < value);
     match calls.get(below) {

@@ -108,7 +108,8 @@ fn near_sources(
 ) -> Result<NearSources, AllocError>
     requires few { length operations.now ≤ MAX_MATCHED }
     requires settled { settled ≤ length operations.now }
-    ensures { IfOk result (λ near. HoldsNear near.wanted operations.now settled (length operations.now) near.sources.items) }
+    ensures { IfOk result
+        (λ near. HoldsNear near.wanted operations.now settled (length operations.now) near.sources.items) }
 {
     let mut sources = Vec::with_capacity(alloc, operations.len() - settled)?;
     let mut wanted = BTreeSet::new(alloc);

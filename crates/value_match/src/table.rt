@@ -1,8 +1,10 @@
-ghost use Rattle.std.specs.Prelude.{◌≡◌, ◌<◌, ◌≤◌, ◌↔◌, IfOk, IfSome, IsTrue, MatchOption, length, nat_lt, slice_index_or, true, false};
+ghost use Rattle.std.specs.Prelude.{◌≡◌, ◌<◌, ◌≤◌, ◌↔◌, IfOk, IfSome, IsTrue, MatchOption};
+ghost use Rattle.std.specs.Prelude.{length, nat_lt, slice_index_or, true, false};
 ghost use Rattle.std.specs.List.Sorted.{IsNonDecreasingBy, IsPartitionPoint};
 ghost use Rattle.value_match.specs.Choice.{StaysAtLeast};
 ghost use Rattle.value_match.specs.declared.life.MatchedValue.{MatchedValue};
-ghost use Rattle.value_match.specs.Fronts.{AreEntriesOf, EntersBefore, FindsLongest, HasFronts, IsByReturn, IsLongerOf, IsTableOf};
+ghost use Rattle.value_match.specs.Fronts.{AreEntriesOf, EntersBefore, FindsLongest};
+ghost use Rattle.value_match.specs.Fronts.{HasFronts, IsByReturn, IsLongerOf, IsTableOf};
 
 use crate::accepted::Values;
 use crate::life::MatchedValue;
@@ -91,7 +93,8 @@ impl<'a> LongestTable<'a> {
 fn count_before(fronts: &[Front], limit: u64) -> usize
     requires { IsNonDecreasingBy (λ front. front.enqueue_return) fronts.now }
     ensures within { result ≤ length fronts.now }
-    ensures cut { IsPartitionPoint (λ front. nat_lt front.enqueue_return limit ≡ true) (λ front. nat_lt front.enqueue_return limit ≡ false) fronts.now result }
+    ensures cut { IsPartitionPoint (λ front. nat_lt front.enqueue_return limit ≡ true)
+        (λ front. nat_lt front.enqueue_return limit ≡ false) fronts.now result }
 {
     fronts.partition_point(|front| front.enqueue_return < limit)
 }
@@ -132,7 +135,8 @@ fn longer_place(values: &Values, so_far: Option<usize>, place: usize) -> usize
     requires place { place < length values.now }
     ensures within { result < length values.now }
     ensures longer { (d : MatchedValue) → MatchOption so_far (result ≡ place)
-        (λ p. IsLongerOf (slice_index_or values.now p d) (slice_index_or values.now place d) (slice_index_or values.now result d)) }
+        (λ p. IsLongerOf (slice_index_or values.now p d) (slice_index_or values.now place d)
+        (slice_index_or values.now result d)) }
 {
     match so_far {
         Some(longest) if stays_at_least(values, longest, place) => longest,
@@ -145,7 +149,8 @@ fn longer_place(values: &Values, so_far: Option<usize>, place: usize) -> usize
 fn stays_at_least(values: &Values, place: usize, other: usize) -> bool
     requires place { place < length values.now }
     requires other { other < length values.now }
-    ensures { (d : MatchedValue) → IsTrue result ↔ StaysAtLeast (slice_index_or values.now place d).life (slice_index_or values.now other d).life }
+    ensures { (d : MatchedValue) → IsTrue result
+        ↔ StaysAtLeast (slice_index_or values.now place d).life (slice_index_or values.now other d).life }
 {
     let value = values.get(place);
     let other = values.get(other);

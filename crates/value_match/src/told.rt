@@ -51,7 +51,8 @@ pub(crate) fn told_fresh(initial_count: usize, found: FreshPlaces) -> Violation
 
 /// Returns the violation that two dequeues of one value are.
 pub(crate) fn told_repeat(initial_count: usize, found: RepeatPlaces) -> Violation
-    ensures { result ≡ Repeat (told_source initial_count found.enq) (told_place initial_count found.first) (told_place initial_count found.second) }
+    ensures { result ≡ Repeat (told_source initial_count found.enq) (told_place initial_count found.first)
+        (told_place initial_count found.second) }
 {
     Violation::Repeat {
         enq: told_source(initial_count, found.enq),

@@ -1,5 +1,5 @@
--- A complete history has a linearization if and only if it has no violation: a violation rules out each order, and
--- without one there is a legal order.
+-- A complete history has a linearization if and only if it has no violation: a violation rules out every order, and
+-- without one a linearization is built.
 use Rattle.verdicts.proofs.Common.{[], accept, accept_all, AllZip, ap, append-nil, AreComplete, AreLeastFreeGaps}
 use Rattle.verdicts.proofs.Common.{arith, call_by_return, call_or_never, cases_order, chosen_cover}
 use Rattle.verdicts.proofs.Common.{chosen_order_exists, Contains, Contains-permutation, contains_at, CoversFrom, Deq}
@@ -54,7 +54,7 @@ module _ (operations listed : List Operation) (complete : AreComplete operations
   is_operation : (i : ℕ) (o : Operation) → slice_get listed i ≡ Some o → Contains operations o
   is_operation i o at = Contains-permutation listed operations o (IsPermutation-sym operations listed legal.holds_each_once) (contains_at listed i o at)
 
-  -- an operation does not stand before one that precedes it
+  -- an operation does not come before one that precedes it
   not_later : (i j : ℕ) (x y : Operation) → slice_get listed i ≡ Some x → slice_get listed j ≡ Some y → i < j → ¬ (Precedes y x)
   not_later i j x y at_i at_j below before = pairs_at (λ earlier later. ¬ (Precedes later earlier)) listed i j x y legal.extends_precedence below at_i
       at_j before

@@ -1,4 +1,5 @@
-ghost use Rattle.std.specs.Prelude.{◌≡◌, ◌↔◌, IsTrue, IfOk, IsPermutation, AllPairs, map, MatchBool, Some, None, length};
+ghost use Rattle.std.specs.Prelude.{◌≡◌, ◌↔◌, IsTrue, IfOk, IsPermutation};
+ghost use Rattle.std.specs.Prelude.{AllPairs, map, MatchBool, Some, None, length};
 ghost use Rattle.history_merge.specs.Operations.{Precedes};
 ghost use Rattle.history_merge.specs.Queue.{IsAccepted, accept};
 ghost use Rattle.history_merge.specs.Legal.{IsLegalOrder};
@@ -16,7 +17,8 @@ pub(crate) fn is_legal_order(
     history: &History,
     lines: &[Operation],
 ) -> Result<bool, AllocError>
-    ensures { IfOk result (λ legal. IsTrue legal ↔ IsLegalOrder history.now.initial (operations_of history.now.events) lines.now) }
+    ensures { IfOk result
+        (λ legal. IsTrue legal ↔ IsLegalOrder history.now.initial (operations_of history.now.events) lines.now) }
 {
     if !extends_precedence(lines) {
         return Ok(false);
@@ -98,7 +100,8 @@ fn is_accepted(alloc: Global, first_held: &[u64], lines: &[Operation]) -> Result
 
 /// Applies one operation to the queue. Returns false if the queue doesn't accept it.
 fn takes(queue: &mut VecDeque<u64>, kind: OpKind) -> Result<bool, AllocError>
-    ensures { IfOk result (λ taken. MatchBool taken (accept queue.old.items kind ≡ Some queue.new.items) (accept queue.old.items kind ≡ None)) }
+    ensures { IfOk result (λ taken. MatchBool taken (accept queue.old.items kind ≡ Some queue.new.items)
+        (accept queue.old.items kind ≡ None)) }
 {
     match kind {
         OpKind::Enq(value) => queue.push_back(value)?,

@@ -2,8 +2,8 @@ ghost use Rattle.std.specs.Prelude.{◌≡◌, ◌↔◌, ◌⊎◌, ℕ, IsTrue
 ghost use Rattle.history_merge.specs.declared.operation.OpKind.TheVariants.{Deq, Enq, Not};
 ghost use Rattle.history_merge.specs.Operations.{operations_of};
 ghost use Rattle.verdicts.specs.Inner.Claims.{dequeued_by, enqueued_by};
-ghost use Rattle.claims.specs.Showing.{EnqueuedBefore, LeavesAfter, LineDid, LinePrecedes, LinesCover, NoLineDid, ReturnsFirst};
-ghost use Rattle.claims.specs.Showing.{Shows, ShowsFresh, ShowsOrder, ShowsRepeat, ShowsWitness};
+ghost use Rattle.claims.specs.Showing.{EnqueuedBefore, LeavesAfter, LineDid, LinePrecedes, LinesCover, NoLineDid};
+ghost use Rattle.claims.specs.Showing.{ReturnsFirst, Shows, ShowsFresh, ShowsOrder, ShowsRepeat, ShowsWitness};
 
 use crate::lookup::{line_did, line_precedes, no_line_did, returns_first};
 use claims::{ClaimLine, ViolationKind};
@@ -77,7 +77,8 @@ fn is_never_enqueued(history: &History, deq: ClaimLine, value: u64) -> bool
 fn is_enqueued_too_late(history: &History, deq: ClaimLine, enq: ClaimLine, value: u64) -> bool
     ensures { IsTrue result ↔ (LineDid history.now.initial (operations_of history.now.events) deq (Deq value)
         × (LineDid history.now.initial (operations_of history.now.events) enq (Not value)
-        ⊎ (LineDid history.now.initial (operations_of history.now.events) enq (Enq value) × LinePrecedes history.now.initial deq enq))) }
+        ⊎ (LineDid history.now.initial (operations_of history.now.events) enq (Enq value)
+        × LinePrecedes history.now.initial deq enq))) }
 {
     line_did(history, deq, OpKind::Deq(value))
         && (line_did(history, enq, OpKind::Not(value))
@@ -106,7 +107,8 @@ fn is_repeat(
 ) -> bool
     ensures { IsTrue result ↔ (LineDid history.now.initial (operations_of history.now.events) enq (Enq value)
         × LineDid history.now.initial (operations_of history.now.events) first (Deq value)
-        × LineDid history.now.initial (operations_of history.now.events) second (Deq value) × ReturnsFirst first second) }
+        × LineDid history.now.initial (operations_of history.now.events) second (Deq value)
+        × ReturnsFirst first second) }
 {
     line_did(history, enq, OpKind::Enq(value))
         && line_did(history, first, OpKind::Deq(value))
@@ -181,7 +183,8 @@ fn covers(history: &History, empty: ClaimLine, lines: &[ClaimLine]) -> bool
 
 /// Returns whether `enq` enqueued a value before the given line, and `deq` dequeued it.
 fn hands_over(history: &History, line: ClaimLine, enq: ClaimLine, deq: ClaimLine) -> bool
-    ensures { IsTrue result ↔ ((v : ℕ) × EnqueuedBefore history.now.initial (operations_of history.now.events) line enq v
+    ensures { IsTrue result
+        ↔ ((v : ℕ) × EnqueuedBefore history.now.initial (operations_of history.now.events) line enq v
         × LineDid history.now.initial (operations_of history.now.events) deq (Deq v)) }
 {
     match enqueued_by(enq) {

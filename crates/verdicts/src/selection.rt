@@ -22,7 +22,8 @@ pub(crate) struct Selection {
 impl Selection {
     /// Returns the selection of the values and calls of these lines.
     pub(crate) fn named_by(alloc: Global, lines: &[ClaimLine]) -> Result<Selection, AllocError>
-        ensures { IfOk result (λ selection. SelectsNamed lines.now (contains nat_cmp selection.values) (contains nat_cmp selection.calls)) }
+        ensures { IfOk result (λ selection. SelectsNamed lines.now (contains nat_cmp selection.values)
+            (contains nat_cmp selection.calls)) }
     {
         let values = values_of(alloc, lines)?;
         let calls = calls_of(alloc, lines)?;
@@ -42,7 +43,8 @@ impl Selection {
 
     /// Returns the events of the selected operations of a history, in their order.
     pub(crate) fn events(&self, alloc: Global, history: &History) -> Result<Vec<Event>, AllocError>
-        ensures kept { IfOk result (λ kept. kept.items ≡ filter (λ e. holds_ticket (filter (selects (contains nat_cmp self.now.values)
+        ensures kept { IfOk result
+            (λ kept. kept.items ≡ filter (λ e. holds_ticket (filter (selects (contains nat_cmp self.now.values)
             (contains nat_cmp self.now.calls)) (operations_of history.now.events)) e.ticket) history.now.events) }
         ensures few { length history.now.events ≤ MAX_EVENTS }
     {
@@ -57,7 +59,9 @@ impl Selection {
         operations: &Operations<'_>,
     ) -> Result<BTreeSet<u64>, AllocError>
         ensures { IfOk result (λ tickets. (t : ℕ) → contains nat_cmp tickets t
-            ≡ holds_ticket (filter (selects (contains nat_cmp self.now.values) (contains nat_cmp self.now.calls)) operations.now) t) }
+            ≡ holds_ticket
+            (filter (selects (contains nat_cmp self.now.values) (contains nat_cmp self.now.calls))
+            operations.now) t) }
     {
         let mut tickets = BTreeSet::new(alloc);
         for operation in operations.iter() {
@@ -111,13 +115,15 @@ fn call_in(line: &ClaimLine) -> Option<u64>
 }
 
 fn values_of(alloc: Global, lines: &[ClaimLine]) -> Result<BTreeSet<u64>, AllocError>
-    ensures { IfOk result (λ values. (v : ℕ) → IsTrue (contains nat_cmp values v) ↔ Contains (filter_map value_in lines.now) v) }
+    ensures { IfOk result
+        (λ values. (v : ℕ) → IsTrue (contains nat_cmp values v) ↔ Contains (filter_map value_in lines.now) v) }
 {
     lines.iter().filter_map(value_in).collect(alloc)
 }
 
 fn calls_of(alloc: Global, lines: &[ClaimLine]) -> Result<BTreeSet<u64>, AllocError>
-    ensures { IfOk result (λ calls. (call : ℕ) → IsTrue (contains nat_cmp calls call) ↔ Contains (filter_map call_in lines.now) call) }
+    ensures { IfOk result
+        (λ calls. (call : ℕ) → IsTrue (contains nat_cmp calls call) ↔ Contains (filter_map call_in lines.now) call) }
 {
     lines.iter().filter_map(call_in).collect(alloc)
 }

@@ -2,7 +2,8 @@ ghost use Rattle.std.specs.Prelude.{◌≡◌, ◌≤◌, IfOk, length, vec_len}
 ghost use Rattle.event_records.specs.declared.limits.TheConstants.{MAX_EVENTS, MAX_INITIAL};
 ghost use Rattle.history_merge.specs.Initial.{IsCompleteFrom};
 ghost use Rattle.history_merge.specs.Operations.{operations_of};
-ghost use Rattle.verdicts.specs.Selection.{ArePartOf, HasShortestCover, IsMinimal, KeepsViolation, StaysChosen, contents_of};
+ghost use Rattle.verdicts.specs.Selection.{ArePartOf, HasShortestCover, IsMinimal};
+ghost use Rattle.verdicts.specs.Selection.{KeepsViolation, StaysChosen, contents_of};
 ghost use Rattle.value_match.specs.Outcome.{IsChosenViolation};
 
 use claims::violation_lines;

@@ -1,6 +1,7 @@
 ghost use Rattle.std.specs.Prelude.{◌≡◌, ◌↔◌, IfOk, IsOk, IsTrue, List};
 ghost use Rattle.history_merge.specs.Operations.{operations_of};
 ghost use Rattle.claims.specs.declared.claimed.ClaimLine.{ClaimLine};
+ghost use Rattle.claims.specs.declared.claimed.ViolationKind.{ViolationKind};
 ghost use Rattle.claims.specs.Claims.{IsTrueClaim};
 
 use crate::claimed_order::is_legal_order;
@@ -26,7 +27,8 @@ use std::alloc::{AllocError, Global};
 /// assert!(rt; verify(alloc, &history, &claimed)?);
 /// ```
 pub fn verify(alloc: Global, history: &History, claimed: &Claimed) -> Result<bool, AllocError>
-    ensures exact { IfOk result (λ valid. IsTrue valid ↔ IsTrueClaim history.now.initial (operations_of history.now.events) claimed.now) }
+    ensures exact { IfOk result
+        (λ valid. IsTrue valid ↔ IsTrueClaim history.now.initial (operations_of history.now.events) claimed.now) }
     ensures no { (kind : ViolationKind) (lines : List ClaimLine) → claimed.now ≡ Claimed.No kind lines → IsOk result }
 {
     match claimed {

@@ -1,5 +1,6 @@
 // Plans as texts of letters.
-ghost use Rattle.std.specs.Prelude.{◌≡◌, ◌≢◌, ℕ, ◌≤◌, ◌↔◌, List, count_by, IfOk, IfErr, IsTrue, MatchOption, MatchResult};
+ghost use Rattle.std.specs.Prelude.{◌≡◌, ◌≢◌, ℕ, ◌≤◌, ◌↔◌, List, count_by, IfOk};
+ghost use Rattle.std.specs.Prelude.{IfErr, IsTrue, MatchOption, MatchResult};
 ghost use Rattle.std.specs.List.{list_all, slice_split};
 ghost use Rattle.event_records.specs.declared.kind.Kind.{Kind};
 ghost use Rattle.workloads.specs.declared.texts.PlanFault.TheVariants as made;

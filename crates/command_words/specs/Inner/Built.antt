@@ -1,4 +1,4 @@
--- How the program is built: a command before and after parts of it are added.
+-- The steps that build the program: a command before and after parts of it are added.
 use Rattle.std.specs.Prelude.{codes}
 use Rattle.clap.specs.Simple.{App, new_shape, with_rule, with_subcommand}
 use Rattle.event_records.specs.declared.limits.TheConstants.{MAX_RING, MAX_SEED, MAX_STRESS_INITIAL, MAX_THREAD_OPERATIONS, MAX_WORKERS, MIN_RING}

@@ -44,7 +44,8 @@ fn claim_at(
     Ok(Claimed::No(kind, ClaimLines::from_vec(lines)))
 }
 
-/// A history, whether it is judged locally, with which empty dequeues, a claim by its kind and places, and whether it is evidence.
+/// A history, its condition (locally with these empty dequeues, or weak emptiness alone), a claim by its kind and
+/// places, and whether the claim is evidence.
 type Case = (
     &'static [u64],
     &'static [Row],
@@ -66,7 +67,7 @@ static CLAIMS: [Case; 19] = [
     // a linearization of thread 0's values, and then one of thread 1's
     (&[], OVERTAKING, STRICT, None, &[0, 3, 1, 2], true),
     (&[], OVERTAKING, WEAK, None, &[0, 3, 1, 2], true),
-    // the threads in the other order, the operations in one order, one too few, one too many
+    // the threads in the opposite order, all operations in one order, too few, too many
     (&[], OVERTAKING, STRICT, None, &[1, 2, 0, 3], false),
     (&[], OVERTAKING, STRICT, None, &[0, 1, 2, 3], false),
     (&[], OVERTAKING, STRICT, None, &[0, 3, 1], false),
@@ -75,7 +76,7 @@ static CLAIMS: [Case; 19] = [
     (&[], OVERTAKING, STRICT, None, &[], false),
     // no thread's own values overtake each other
     (&[], OVERTAKING, STRICT, ORDER, &[0, 1, 2, 3], false),
-    // the values of thread 1 do, and so do those of thread 2
+    // the values of thread 1 overtake each other, and so do those of thread 2
     (&[], EACH_OVERTAKES, STRICT, ORDER, &[3, 4, 6, 7], true),
     (&[], EACH_OVERTAKES, STRICT, ORDER, &[1, 2, 5], true),
     // values of two threads
@@ -106,7 +107,7 @@ fn verifies_under_weaker_conditions(rt: HostRuntime) -> Result<(), Fail> {
     Ok(())
 }
 
-/// Returns the places of a local verdict's linearizations, one after another: none for a `NO`.
+/// Returns the places of a local verdict's linearizations, one after another, or none for a `NO`.
 fn joined(alloc: Global, initial: &[u64], rows: &[Row]) -> Result<Vec<usize>, Fail> {
     let history = history_behind(alloc, initial, rows)?;
     let verdict = decide_local(alloc, &history, Emptiness::Strict)?.into_verdict(alloc)?;
@@ -119,7 +120,7 @@ fn joined(alloc: Global, initial: &[u64], rows: &[Row]) -> Result<Vec<usize>, Fa
     Ok(places)
 }
 
-/// A history, and the places of the linearizations of its local verdict: none for a `NO`.
+/// A history, and the places of the linearizations of its local verdict, or none for a `NO`.
 static JOINED: [(&[u64], &[Row], &[usize]); 4] = [
     (&[], OVERTAKING, &[0, 3, 1, 2]),
     (&[3], INITIAL_LAST, &[2, 3, 0, 1, 3]),

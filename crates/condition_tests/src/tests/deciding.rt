@@ -1,4 +1,4 @@
-//! Verdicts under weaker conditions, and that a violation is one of the whole history.
+//! Verdicts under weaker conditions. A violation of a selection is one of the whole history.
 
 use super::small_histories::{
     EACH_OVERTAKES, FAILED, INITIAL_LAST, INITIAL_SWAPPED, NEVER_ENQUEUED, NOT_EMPTY, OVERTAKING,
@@ -16,7 +16,7 @@ use std::thread::Threads;
 use value_match::{Source, Violation};
 use verdicts::{Verdict, claim, verify};
 
-/// A verdict in numbers: places of operations, and these above them.
+/// The first code of a verdict in numbers. The numbers below it are places of operations.
 const YES: usize = 100;
 
 const FRESH: usize = 101;
@@ -118,7 +118,8 @@ fn tell_local(numbers: &mut Vec<usize>, verdict: &LocalVerdict) -> Result<(), Al
     }
 }
 
-/// Decides local linearizability, by searches in pieces if there are any.
+/// Decides local linearizability. The searches run in `pieces` pieces, or in one go if that number is no number of
+/// pieces.
 fn local_verdict<R: AllocGlobal + Threads + Sync>(
     rt: &R,
     history: &History,
@@ -131,7 +132,8 @@ fn local_verdict<R: AllocGlobal + Threads + Sync>(
     }
 }
 
-/// Decides weak emptiness alone, by a search in pieces if there are any.
+/// Decides weak emptiness alone. The search runs in `pieces` pieces, or in one go if that number is no number of
+/// pieces.
 fn weak_verdict<R: AllocGlobal + Threads + Sync>(
     rt: &R,
     history: &History,
@@ -179,7 +181,7 @@ static SAID: [Case; 12] = [
         &[1000, 100, 2000, 100, 0, 3, 2001, 100, 1, 2],
     ),
     (&[], OVERTAKING, None, &[103, 0, 1, 2, 3]),
-    // both threads' values overtake each other: the lower one's are named
+    // the values of both threads overtake each other; those of the lower thread are named
     (
         &[],
         EACH_OVERTAKES,

@@ -1,4 +1,4 @@
-//! Which operations a selection has.
+//! The operations of a selection.
 
 use super::small_histories::{INITIAL_LAST, NEVER_ENQUEUED, OVERTAKING, Row, history_behind};
 use conditions::{Emptiness, Producer, selection, without_empties};
@@ -16,7 +16,8 @@ fn shown(alloc: Global, history: &History) -> Result<Vec<u64>, AllocError> {
     Ok(numbers)
 }
 
-/// A selection of a history: of a producer, with the empty dequeues or without; or the history without the empty dequeues.
+/// A selection of a history: that of a producer, with or without the empty dequeues, or the history without its empty
+/// dequeues.
 type Wanted = Option<(Producer, Emptiness)>;
 
 fn selected(alloc: Global, rows: &[Row], wanted: Wanted) -> Result<Vec<u64>, Fail> {
@@ -28,7 +29,7 @@ fn selected(alloc: Global, rows: &[Row], wanted: Wanted) -> Result<Vec<u64>, Fai
     Ok(shown(alloc, &part)?)
 }
 
-/// Histories, selections, and what these show.
+/// Histories, selections, and the numbers that `shown` returns.
 static SELECTED: [(&[Row], Wanted, &[u64]); 6] = [
     (INITIAL_LAST, None, &[1, 0, 2, 4]),
     (

@@ -6,10 +6,11 @@ use history_merge::{History, OpKind, history_from};
 use std::alloc::{AllocError, Global};
 use std::test::Fail;
 
-/// An operation: the tickets of its call and its return, its thread, and what it did.
+/// An operation: the tickets of its call and its return, its thread, and its kind.
 pub(crate) type Row = (u64, u64, u8, OpKind);
 
-/// Two threads' values overtake each other, and no thread's own values do: `VOrd`, but locally linearizable.
+/// The values of two threads overtake each other, but no thread's own values do. The history has a `VOrd`, but is
+/// locally linearizable.
 pub(crate) const OVERTAKING: &[Row] = &[
     (0, 1, 0, Enq(7)),
     (2, 3, 1, Enq(9)),
@@ -17,7 +18,7 @@ pub(crate) const OVERTAKING: &[Row] = &[
     (6, 7, 2, Deq(7)),
 ];
 
-/// Thread 2 enqueues 7 and then 8, and thread 1 enqueues 5 and then 6; each one's second value is dequeued first.
+/// Thread 2 enqueues 7 and then 8, and thread 1 enqueues 5 and then 6. The second value of each is dequeued first.
 pub(crate) const EACH_OVERTAKES: &[Row] = &[
     (0, 1, 0, Enq(1)),
     (2, 3, 2, Enq(7)),
@@ -29,12 +30,13 @@ pub(crate) const EACH_OVERTAKES: &[Row] = &[
     (14, 15, 3, Deq(5)),
 ];
 
-/// A dequeue finds the queue empty that holds 7.
+/// A dequeue finds the queue empty, though 7 is in it.
 pub(crate) const NOT_EMPTY: &[Row] = &[(0, 1, 0, Enq(7)), (2, 3, 1, Empty)];
 
-/// A dequeue of a value that nobody enqueued, and one of a value whose enqueue failed.
+/// A dequeue of a value that nobody enqueued.
 pub(crate) const NEVER_ENQUEUED: &[Row] = &[(0, 1, 0, Enq(7)), (2, 3, 1, Deq(9))];
 
+/// A dequeue of a value whose enqueue failed.
 pub(crate) const FAILED: &[Row] = &[(0, 1, 5, Not(7)), (2, 3, 1, Deq(7))];
 
 /// The initial value is dequeued after one that was enqueued later.
@@ -78,7 +80,7 @@ fn events_of(alloc: Global, rows: &[Row]) -> Result<Vec<Event>, AllocError> {
     Ok(events)
 }
 
-/// Returns the history of these operations, of a queue that starts with these values.
+/// Returns the history of these operations, of a queue with these initial values.
 pub(crate) fn history_behind(
     alloc: Global,
     initial: &[u64],

@@ -9,7 +9,8 @@ use Rattle.conditions.specs.Conditions.{all_producers, has_values, selection_of}
 use Rattle.conditions.specs.Decided.{IsDecidedOf}
 use Rattle.conditions.specs.Inner.Sharing.{ranked}
 
--- the selections of the producers below this rank are linearizable, and the orders show it for those that the history has
+-- the selections of the producers below this rank are linearizable, and the orders show it for those that the history
+-- has
 pub record AreJudged (emptiness : Emptiness) (whole : Contents) (rank : ℕ) (orders : List LocalOrder) : Type 0 where
   pub linearizable : (k : ℕ) → k < rank → AreLinearizable (selection_of emptiness (ranked k) whole)
   pub producers : map (λ x. x.producer) orders ≡ filter (has_values whole) (take rank all_producers)

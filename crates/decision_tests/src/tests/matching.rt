@@ -56,7 +56,7 @@ static NAMED: [(&[Row], Option<Named>); 3] = [
         &[(0, 1, 0, Not(7)), (2, 3, 0, Deq(7))],
         Some((Some(0), 1, None)),
     ),
-    // of three dequeues, the first called returns last
+    // the first of three dequeues by call returns last
     (
         &[
             (0, 1, 0, Enq(7)),
@@ -80,7 +80,7 @@ fn names_a_value_that_was_not_there_or_came_twice(rt: HostRuntime) -> Result<(),
 /// An enqueued value by its numbers: its source, and its dequeue if there is one.
 type Accepted = (usize, Option<usize>);
 
-/// What the matching of a history returns.
+/// The parts of a history's matching.
 struct Shown {
     initial: &'static [u64],
     rows: &'static [Row],

@@ -1,4 +1,4 @@
--- What a history keeps of its events: their operations, which determine them.
+-- A history keeps the operations of its events, which determine the events.
 use Rattle.std.specs.Prelude.{◌≡◌, ℕ, ◌+◌, ◌<◌, ◌≤◌, Bool, true, false, not, nat_eq, nat_le, All, IfSome, List, [], ◌∷◌, Option, None, Some, ⊤}
 use Rattle.std.specs.Prelude.{find, length, option_and_then, slice_index_or}
 use Rattle.std.specs.Bool.{then_some}

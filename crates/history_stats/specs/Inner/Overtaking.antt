@@ -1,4 +1,4 @@
--- When values were enqueued and dequeued, and by which dequeues.
+-- The times at which values were enqueued and dequeued, with the dequeues.
 use Rattle.std.specs.Prelude.{◌≡◌, ℕ, ◌≤◌, ◌<◌, ◌&&◌, take, Bool, List, length, map, not, nat_lt, count_by, find, filter_map, All, Option, None, option_map}
 use Rattle.std.specs.Ordering.{nat_cmp}
 use Rattle.std.specs.BTreeMap.{BTreeMap, get}

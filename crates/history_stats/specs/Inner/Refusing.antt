@@ -1,5 +1,6 @@
 -- The number of values that there may be after each arrival, and during failed enqueues.
-use Rattle.std.specs.Prelude.{◌≡◌, ℕ, ◌+◌, ◌-◌, ◌<◌, ◌&&◌, Bool, List, length, count_by, filter_map, nat_eq, nat_le, nat_lt, slice_index_or, take, Option, Some, None, if◌then◌else◌}
+use Rattle.std.specs.Prelude.{◌≡◌, ℕ, ◌+◌, ◌-◌, ◌<◌, ◌&&◌, Bool, List, length, count_by, filter_map}
+use Rattle.std.specs.Prelude.{nat_eq, nat_le, nat_lt, slice_index_or, take, Option, Some, None, if◌then◌else◌}
 use Rattle.history_merge.specs.declared.operation.Operation.{Operation}
 use Rattle.history_stats.specs.Counts.{is_refused}
 use Rattle.history_stats.specs.Inner.AtOnce.{count_before}

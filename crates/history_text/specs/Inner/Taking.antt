@@ -13,7 +13,7 @@ use Rattle.history_text.specs.Versions.{count_fields, count_in}
 use Rattle.history_text.specs.Schedules.{setting_fields, setting_in, IsSetting}
 use Rattle.history_text.specs.Reading.{HasFirstFault, IsOver, Left, OfLeft, Takes}
 
--- what is known of the bytes after the buffer: there are none once the end of the source was seen
+-- the known bytes after the buffer: none once the end of the source was seen
 abbrev pub behind : SourceEnd → Known → Known
 behind end.NotSeen known = known
 behind end.Over known = Exactly (over EndOfInput)

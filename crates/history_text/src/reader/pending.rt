@@ -1,5 +1,6 @@
 //! Reading texts in which calls may be pending.
-ghost use Rattle.std.specs.Prelude.{◌≡◌, ◌≢◌, ◌+◌, ◌++◌, ◌<◌, ◌^◌, ◌≤◌, [], true, false, None, Some, Err, IfOk, IfErr, OnOk, is_err, length};
+ghost use Rattle.std.specs.Prelude.{◌≡◌, ◌≢◌, ◌+◌, ◌++◌, ◌<◌, ◌^◌, ◌≤◌, [], true, false};
+ghost use Rattle.std.specs.Prelude.{None, Some, Err, IfOk, IfErr, OnOk, is_err, length};
 ghost use Rattle.history_text.specs.Reading.{Takes};
 ghost use Rattle.text_lines.specs.Lines.{end_line, line};
 ghost use Rattle.history_text.specs.Inner.Pending.{HasEventsFault, IsStop, TakesEventLine, TakesEvents};
@@ -8,8 +9,9 @@ ghost use Rattle.history_text.specs.Items.{HaveLines, lines_of};
 ghost use Rattle.history_text.specs.Histories.{event_format};
 ghost use Rattle.history_text.specs.Versions.{HaveValueLines};
 ghost use Rattle.history_text.specs.Pending as wanted;
-ghost use Rattle.history_text.specs.Pending.{first_line_of, stop_line, lines_after_stop, whole_line_at_front, NoFirstLine};
-ghost use Rattle.history_text.specs.Pending.{HasPendingTextFault, IsPendingRead, lines_at_stop, pending_line_count};
+ghost use Rattle.history_text.specs.Pending.{first_line_of, stop_line, lines_after_stop};
+ghost use Rattle.history_text.specs.Pending.{whole_line_at_front, NoFirstLine, HasPendingTextFault};
+ghost use Rattle.history_text.specs.Pending.{IsPendingRead, lines_at_stop, pending_line_count};
 
 use crate::pending_line::{EventLine, event_line_in, first_line_in, last_line_in};
 use crate::pending_text::{EventList, PendingText, Values};
@@ -50,7 +52,8 @@ impl<R: TextSource> TextReader<R> {
         requires { self.old.lines + 1 < 2 ^ 64 }
         ensures ok { IfOk result (TakesEventLine is_pending self.old.left self.new.left count) }
         ensures fault { IfErr result (FaultAtFront (λ ending fault front.
-            whole_line_at_front (wanted.event_line_in is_pending (self.old.lines + 1) count) (self.old.lines + 1) ending front ≡ Err fault) self.old.left) }
+            whole_line_at_front (wanted.event_line_in is_pending (self.old.lines + 1) count)
+            (self.old.lines + 1) ending front ≡ Err fault) self.old.left) }
         ensures of_input { IfErr result IsOfInput }
         ensures lines { self.new.lines ≡ self.old.lines + 1 }
     {
@@ -63,7 +66,8 @@ impl<R: TextSource> TextReader<R> {
         requires { self.old.lines + 1 < 2 ^ 64 }
         ensures ok { OnOk result (Takes self.old.left self.new.left (end_line count)) }
         ensures fault { IfErr result (FaultAtFront (λ ending fault front.
-            whole_line_at_front (wanted.last_line_in (self.old.lines + 1) count) (self.old.lines + 1) ending front ≡ Err fault) self.old.left) }
+            whole_line_at_front (wanted.last_line_in (self.old.lines + 1) count) (self.old.lines + 1) ending front
+            ≡ Err fault) self.old.left) }
         ensures of_input { IfErr result IsOfInput }
         ensures lines { self.new.lines ≡ self.old.lines + 1 }
     {
@@ -82,7 +86,8 @@ impl<R: TextSource> TextReader<R> {
         requires empty { into.old.items ≡ [] }
         ensures read { IfOk result (TakesEvents is_pending self.old.left self.new.left into.new.items) }
         ensures lines { IfOk result (λ _. self.new.lines ≡ self.old.lines + 1 + length into.new.items) }
-        ensures fault { IfErr result (HasEventsFault is_pending (self.old.lines + 1) self.old.left into.new.items None) }
+        ensures fault { IfErr result
+            (HasEventsFault is_pending (self.old.lines + 1) self.old.left into.new.items None) }
         ensures right { IfErr result (λ fault. IsOfInput fault → HaveLines event_format into.new.items) }
     {
         let mut count = 0;
@@ -123,9 +128,12 @@ impl<R: TextSource> TextReader<R> {
         ensures events { OnOk result (HaveLines event_format into.new.items) }
         ensures stop { OnOk result (IsStop is_pending open_calls.new) }
         ensures taken { OnOk result (Takes self.old.left self.new.left (lines_of event_format into.new.items
-            ++ (stop_line open_calls.new (length into.new.items) ++ lines_after_stop open_calls.new (length into.new.items)))) }
-        ensures lines { OnOk result (self.new.lines ≡ self.old.lines + length into.new.items + lines_at_stop open_calls.new) }
-        ensures fault { IfErr result (HasEventsFault is_pending (self.old.lines + 1) self.old.left into.new.items open_calls.new) }
+            ++ (stop_line open_calls.new (length into.new.items)
+            ++ lines_after_stop open_calls.new (length into.new.items)))) }
+        ensures lines { OnOk result
+            (self.new.lines ≡ self.old.lines + length into.new.items + lines_at_stop open_calls.new) }
+        ensures fault { IfErr result
+            (HasEventsFault is_pending (self.old.lines + 1) self.old.left into.new.items open_calls.new) }
         ensures right { IfErr result (λ fault. IsOfInput fault → HaveLines event_format into.new.items) }
     {
         *open_calls = self.collect_events(is_pending, into)?;
@@ -138,9 +146,12 @@ impl<R: TextSource> TextReader<R> {
     /// Returns the text that the input begins with, and whether it is whole.
     fn pending(&mut self, alloc: Global, takes_cut: bool) -> Result<(PendingText, bool), TextFault>
         requires { self.old.lines < 2 ^ 63 }
-        ensures text { IfOk result (λ read. IsPendingRead takes_cut self.old.lines self.old.left self.new.left read.0 read.1) }
-        ensures lines { IfOk result (λ read. HaveValueLines read.0.version read.0.initial × HaveLines event_format read.0.events) }
-        ensures count { IfOk result (λ read. read.1 ≡ true → self.new.lines ≡ self.old.lines + pending_line_count read.0) }
+        ensures text { IfOk result
+            (λ read. IsPendingRead takes_cut self.old.lines self.old.left self.new.left read.0 read.1) }
+        ensures lines { IfOk result
+            (λ read. HaveValueLines read.0.version read.0.initial × HaveLines event_format read.0.events) }
+        ensures count { IfOk result
+            (λ read. read.1 ≡ true → self.new.lines ≡ self.old.lines + pending_line_count read.0) }
         ensures fault { IfErr result (HasPendingTextFault takes_cut self.old.lines self.old.left) }
     {
         let (is_pending, version) = self.first_line()?;
@@ -182,12 +193,15 @@ pub fn read_pending<R: TextSource>(
     requires lines { reader.old.lines < 2 ^ 63 }
 
     // The input begins with the text; or with a part of one, and then ends.
-    ensures text { IfOk result (λ read. IsPendingRead takes_cut reader.old.lines reader.old.left reader.new.left read.0 read.1) }
+    ensures text { IfOk result
+        (λ read. IsPendingRead takes_cut reader.old.lines reader.old.left reader.new.left read.0 read.1) }
 
     // Whatever the source does, each value and each event has its line.
-    ensures lines { IfOk result (λ read. HaveValueLines read.0.version read.0.initial × HaveLines event_format read.0.events) }
+    ensures lines { IfOk result
+        (λ read. HaveValueLines read.0.version read.0.initial × HaveLines event_format read.0.events) }
 
-    ensures count { IfOk result (λ read. read.1 ≡ true → reader.new.lines ≡ reader.old.lines + pending_line_count read.0) }
+    ensures count { IfOk result
+        (λ read. read.1 ≡ true → reader.new.lines ≡ reader.old.lines + pending_line_count read.0) }
 
     // The fault is the first one.
     ensures fault { IfErr result (HasPendingTextFault takes_cut reader.old.lines reader.old.left) }

@@ -27,12 +27,12 @@ IsNoopFrom noops k p = (n : ℕ) × (x : Placed) × (k ≤ n) × (slice_get noop
 abbrev pub IsAhead : List Life → List Placed → ℕ → ℕ → ℕ → Position → Type 0
 IsAhead lives noops i j k p = IsValueFrom lives i j p ⊎ IsNoopFrom noops k p
 
--- none of these positions stands before the limit; without a limit, there are no such positions
+-- none of these positions comes before the limit; without a limit, there are no such positions
 abbrev pub NoneBelow : (Position → Type 0) → Option Stored → Type 0
 NoneBelow Is limit = (p : Position) → Is p → IsSomeAnd limit (λ q. ¬ (StandsBefore p (position_of q)))
 
 -- the places of the enqueues of the first i values, the dequeues of the first j and the first k no-ops, in rising
--- order of position; no operation that is left stands before one of these
+-- order of position; no operation that is left comes before one of these
 pub record IsMergedUpTo (history : Contents) (lives : List Life) (noops : List Placed) (i j left k : ℕ) (places : List ℕ) : Type 0 where
   pub values : List Placed
   pub held : HoldsUpTo history lives i j left values

@@ -140,7 +140,7 @@ noop_at operations timed = record {
   position = record { gap = timed.time; class = Noop; rank = (operation_at operations timed.place).call + ORIGIN };
 }
 
--- no operation stands before an earlier one
+-- no operation comes before an earlier one
 abbrev pub NeverFall : List Placed → Type 0
 NeverFall placed = AllPairs (λ p q. ¬ (StandsBefore (position_of q.position) (position_of p.position))) placed
 

@@ -10,7 +10,7 @@ use std::test::Fail;
 const OVERTAKEN: &str =
     "fifo-history 1\n0 0 call-enq 7\n1 0 ret-enq\n2 0 call-enq 9\n3 0 ret-enq\n4 0 call-deq\n5 0 ret-deq 9\nend 6\n";
 
-/// Its picture, as `examples/overtaken.picture`.
+/// Its picture, as in `examples/overtaken.picture`.
 const PICTURE: &str = "\
 NO: values were dequeued against the order of their enqueues
 7 was enqueued (1) before 9 (2),
@@ -36,7 +36,7 @@ ticket   |    |   0
 
 const VERDICT: &str = "NO VOrd\n0 1 0 enq 7\n2 3 0 enq 9\n4 5 0 deq 9\n";
 
-/// Three operations of one thread, behind the second of which two values are in the queue.
+/// Three operations of one thread. After the second, two values are in the queue.
 const STATISTICS: &str = "events 6
 operations 3
 threads 1
@@ -54,7 +54,7 @@ overtakes 1
 overtaken-at-most 1
 ";
 
-/// 80 bytes, the most that a line may have.
+/// 80 bytes, the maximum length of a line.
 const LONGEST: &str =
     "xxxxxxxxxxxxxxxxxxxxxxxxxxxxxxxxxxxxxxxxxxxxxxxxxxxxxxxxxxxxxxxxxxxxxxxxxxxxxxxx";
 
@@ -63,7 +63,7 @@ const TOO_LONG: &str =
 
 const ENQUEUE: &str = "fifo-history 1\n0 0 call-enq 7\n1 0 ret-enq\nend 2\n";
 
-/// An enqueue never returned, though its value was dequeued.
+/// An enqueue that never returned, though its value was dequeued.
 const PENDING: &str =
     "fifo-pending 1\n0 0 call-enq 7\n1 1 call-deq\n2 1 ret-deq 7\nopen 1\nend 3\n";
 
@@ -72,7 +72,7 @@ const COMPLETED: &str =
 
 const CUT_OFF: &str = "fifo-pending 1\n0 0 call-deq\n1 1 call";
 
-/// What the program is called by, its input, whether the reader fails after that, what is written, and the status.
+/// The command line, the input, whether the reader fails after it, the output, and the status.
 const CASES: [(&str, &str, bool, &str, u8); 14] = [
     ("fifobench check", OVERTAKEN, false, VERDICT, 1),
     ("fifobench stats", OVERTAKEN, false, STATISTICS, 0),

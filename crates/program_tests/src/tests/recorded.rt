@@ -1,4 +1,4 @@
-//! Runs of queues in this process: what `check` writes of each.
+//! The output of `check` for runs of queues in this process.
 use super::run;
 use Entry::{Empty, Got, Taken};
 use commands::built_ins;
@@ -10,7 +10,7 @@ use std::test::Fail;
 use std::thread::Threads;
 use workloads::Plan;
 
-/// The text of the history of a run of this plan, if there is one.
+/// Returns the text of the history of a run of this plan, if there is one.
 fn recorded<R: AllocGlobal + Threads + Wait + Sync>(
     rt: &R,
     queue: &dyn TestQueue,
@@ -25,7 +25,7 @@ fn recorded<R: AllocGlobal + Threads + Wait + Sync>(
     Some(text.into_inner())
 }
 
-/// What `check` writes of it.
+/// Returns the output of `check` for it.
 fn judged<R: AllocGlobal + Threads + Wait + Sync>(
     rt: &R,
     queue: &dyn TestQueue,
@@ -37,7 +37,7 @@ fn judged<R: AllocGlobal + Threads + Wait + Sync>(
     Some(written)
 }
 
-/// Whether `check` writes this of it.
+/// Returns whether this is the output of `check` for it.
 fn is_judged<R: AllocGlobal + Threads + Wait + Sync>(
     rt: &R,
     queue: &dyn TestQueue,
@@ -62,7 +62,8 @@ const INVENTED: &str = "NO VFresh\n6 7 0 deq 9223372036854775808\n";
 
 const KEPT_IN_ORDER: &str = "YES\n0 1 0 enq 0\n2 3 0 deq 0\n";
 
-// Each faulty queue but the first counts its calls: the recorder makes no call that it doesn't record.
+// Each faulty queue but the first counts its calls, so a call that the recorder doesn't record would change its
+// answers.
 const FOUND: [(&str, &str, &str); 9] = [
     ("locked", "ED\n", KEPT_IN_ORDER),
     ("two-lock", "ED\n", KEPT_IN_ORDER),
@@ -86,7 +87,7 @@ fn queues_of_the_shelf_are_what_they_are_called(rt: HostRuntime) -> Result<(), F
     Ok(())
 }
 
-/// A queue that answers each thread by its row.
+/// Returns a queue that answers each thread by its row.
 fn script(alloc: Global, rows: &[&[Entry]]) -> Result<ScriptQueue, Fail> {
     let mut script = Vec::new(alloc);
     for row in rows {
@@ -132,8 +133,8 @@ fn scripts_that_lie_are_caught(rt: HostRuntime) -> Result<(), Fail> {
     Ok(())
 }
 
-/// Whether a verdict says of a value that it was dequeued before it was enqueued, by the first operation, or that
-/// it was dequeued twice, and not by the first operation.
+/// Returns whether a verdict reports one of two violations: a value dequeued before it was enqueued, by the first
+/// operation, or a value dequeued twice, but not by the first operation.
 fn is_caught(verdict: &[u8]) -> bool {
     match str::from_utf8(verdict) {
         Ok(text) if text.contains("\n0 1 1 deq 0\n") => text.starts_with("NO VFresh\n"),
@@ -142,7 +143,7 @@ fn is_caught(verdict: &[u8]) -> bool {
     }
 }
 
-// Both threads dequeue the one value: whichever comes first, the answer is `NO`.
+// Both threads dequeue the one value. Whichever comes first, the answer is `NO`.
 #[test]
 fn a_value_given_to_two_threads_is_caught(rt: HostRuntime) -> Result<(), Fail> {
     let queue = script(rt.alloc(), &[&[Taken, Got(0)], &[Got(0)]])?;

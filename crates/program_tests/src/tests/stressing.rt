@@ -1,4 +1,4 @@
-//! Runs of queues that the program has not built in.
+//! Runs of queues that aren't built into the program.
 use super::answers;
 use commands::NamedQueue;
 use history_text::MemorySource;
@@ -6,7 +6,7 @@ use queue_interface::{ArrayBack, Entry, ScriptQueue};
 use std::alloc::{AllocError, Global};
 use std::test::Fail;
 
-/// A queue with this name that answers its one worker so.
+/// Returns a queue with this name that answers its only worker by the row.
 fn scripted<'a>(alloc: Global, name: &'a str, row: &[Entry]) -> Result<NamedQueue<'a>, AllocError> {
     let mut rows = Vec::new(alloc);
     rows.push(Vec::from_slice(alloc, row)?)?;
@@ -14,8 +14,8 @@ fn scripted<'a>(alloc: Global, name: &'a str, row: &[Entry]) -> Result<NamedQueu
     Ok(NamedQueue { name, queue })
 }
 
-/// Two queues of one name, of which the first takes a value and the second doesn't, and between them one that has
-/// the name of the proved queue, and takes nothing.
+/// Returns two queues with one name, of which the first takes a value and the second doesn't, and between them one
+/// with the name of the proved queue, which takes nothing.
 fn shelf_of_three(alloc: Global) -> Result<Vec<NamedQueue<'static>>, AllocError> {
     let mut shelf = Vec::new(alloc);
     shelf.push(scripted(alloc, "taking", &[Entry::Taken])?)?;
@@ -24,12 +24,12 @@ fn shelf_of_three(alloc: Global) -> Result<Vec<NamedQueue<'static>>, AllocError>
     Ok(shelf)
 }
 
-/// What is written of a run of one enqueue that is taken.
+/// The output of a run of one successful enqueue.
 const TAKEN: &str = "fifo-history 1\n0 0 call-enq 0\n1 0 ret-enq\nend 2\nYES\n0 1 0 enq 0\n";
-/// What is written of a run of one enqueue that is not taken.
+/// The output of a run of one failed enqueue.
 const NOT_TAKEN: &str = "fifo-history 1\n0 0 call-enq 0\n1 0 ret-not\nend 2\nYES\n0 1 0 not 0\n";
 
-/// How the program is called, what is written, and the status. The last queue has room for one value.
+/// The command line, the output, and the status. The last queue has room for one value.
 const RUNS: [(&str, &str, u8); 3] = [
     (
         "fifobench stress --threads 1 --ops 1 --percent 100 --queue taking",
@@ -48,7 +48,7 @@ const RUNS: [(&str, &str, u8); 3] = [
     ),
 ];
 
-// A run reads nothing, since a read would fail.
+// A run reads nothing: a read would fail.
 #[test]
 fn the_first_queue_of_a_name_is_run(rt: HostRuntime) -> Result<(), Fail> {
     let mut shelf = shelf_of_three(rt.alloc())?;

@@ -3,7 +3,7 @@ use history_text::Watched;
 use std::alloc::Global;
 use std::env::{Env, FillError};
 
-/// Words of a command line, and no variables.
+/// Arguments of a command line, and no variables.
 #[derive(Drop)]
 struct Given<'a> {
     words: &'a [&'a [u8]],
@@ -30,7 +30,7 @@ impl Env for Given<'_> {
     }
 }
 
-/// How many arguments of these bytes there are, and whether the second is a word, or why there are none.
+/// Returns the number of arguments and whether the second is this word, or the fault if there are none.
 fn read(alloc: Global, words: &[&[u8]], word: &str) -> Result<(usize, bool), StartFault> {
     let words = words_of(&(Given { words }, alloc))?;
     let second = words.as_slice().get(1);
@@ -48,7 +48,7 @@ fn words_are_read_as_text(rt: HostRuntime) {
     assert!(rt; no_text == Err(StartFault::NoText));
 }
 
-/// What is written if an argument isn't UTF-8, and the status.
+/// Returns the output for an argument that isn't UTF-8, and the status.
 fn explained(alloc: Global) -> (Vec<u8>, u8) {
     let mut writer = Watched::new(Vec::new(alloc));
     let mut errors = Watched::new(Vec::new(alloc));

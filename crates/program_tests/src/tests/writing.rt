@@ -12,11 +12,11 @@ const OVERTAKEN: &str =
 
 const VERDICT: &str = "NO VOrd\n0 1 0 enq 7\n2 3 0 enq 9\n4 5 0 deq 9\n";
 
-/// For how many bytes the writer has room.
+/// The number of bytes that fit into the writer.
 const ROOM: usize = 64;
 
-/// A writer that takes this many bytes, one at a time, and then takes nothing, or fails as interrupted, its flush
-/// too. It counts its calls.
+/// A writer that takes `most` bytes, one at a time. After them it takes nothing, or all its calls, its flush too,
+/// fail as interrupted. It counts its calls.
 #[derive(Drop)]
 struct Slow {
     bytes: [u8; ROOM],
@@ -28,7 +28,7 @@ struct Slow {
 }
 
 impl Slow {
-    /// Whether a call fails.
+    /// Fails if the writer fails by now.
     fn answer(&self) -> io::Result<()> {
         if self.fails && self.count >= self.most {
             return Err(io::Error::from(ErrorKind::Interrupted));
@@ -58,8 +58,8 @@ impl Write for Slow {
     }
 }
 
-/// The status of a check over such a writer, how often that is called and flushed, and whether it has this prefix
-/// of the verdict.
+/// Runs a check with such a writer. Returns the status, the numbers of calls and flushes of the writer, and whether
+/// it has this prefix of the verdict.
 fn checked<R: AllocGlobal + Threads + Wait + Sync>(
     rt: &R,
     words: &[String],
@@ -81,7 +81,7 @@ fn checked<R: AllocGlobal + Threads + Wait + Sync>(
     (status, writer.writes, writer.flushes, is_prefix)
 }
 
-/// The words that ask for a check.
+/// Returns the arguments that ask for a check.
 fn words(alloc: Global) -> Result<Vec<String>, AllocError> {
     let mut words = Vec::new(alloc);
     words.push(String::from_str(alloc, "fifobench")?)?;
@@ -89,7 +89,7 @@ fn words(alloc: Global) -> Result<Vec<String>, AllocError> {
     Ok(words)
 }
 
-// A refused call is the last one, and the flush comes once, after the whole text.
+// A failed call is the last one. The flush comes once, after the whole text.
 #[test]
 fn a_slow_writer_gets_the_text_or_a_front(rt: HostRuntime) -> Result<(), Fail> {
     let words = words(rt.alloc())?;

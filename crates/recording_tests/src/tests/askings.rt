@@ -1,4 +1,4 @@
-// What a queue is asked, also if nothing of it is recorded.
+// The questions that a queue is asked, also if none of them is recorded.
 use event_records::{AnsweredDeq, AnsweredEnq, AskDeq, AskEnq};
 use queue_interface::TestQueue;
 use std::alloc::Global;
@@ -8,7 +8,7 @@ use std::thread::Threads;
 use stress_run::{RunFault, run};
 use workloads::Plan;
 
-// A queue for one thread. It counts its questions, and sees if one isn't the next of the thread.
+// A queue for one thread. It counts its questions, and notes whether each is the next of the thread.
 #[derive(Drop)]
 pub(crate) struct CountingQueue {
     asked: AtomicU64,
@@ -23,7 +23,7 @@ impl CountingQueue {
         }
     }
 
-    // How many questions were asked, or none if one was asked out of turn.
+    // Returns the number of questions asked, or none if one was asked out of turn.
     pub(crate) fn asked(&self) -> Option<u64> {
         if self.out_of_turn.load(Ordering::SeqCst) {
             None
@@ -61,7 +61,7 @@ impl TestQueue for CountingQueue {
     }
 }
 
-// How many questions a run of one worker's 20,000 operations asks, and why it fails.
+// Returns the number of questions that a run of one worker's 20,000 operations asks, and the fault if it fails.
 fn run_counted<R: Threads + Sync>(
     rt: &R,
     alloc: Global,
@@ -81,7 +81,7 @@ fn a_run_asks_what_it_records(rt: HostRuntime) -> Result<(), Fail> {
     Ok(())
 }
 
-// The second of two runs would begin again with question 0.
+// A second run would begin again with question 0.
 #[test]
 fn a_run_that_stalls_is_not_run_again(rt: HostRuntime) -> Result<(), Fail> {
     let (asked, fault) = run_counted(&rt, rt.alloc(), 2, 1)?;

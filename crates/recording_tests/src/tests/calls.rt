@@ -1,4 +1,4 @@
-// Calls of a thread, as its ring takes them.
+// Calls of a thread, in the form that its ring takes.
 ghost use Rattle.std.specs.Prelude.{◌≡◌, IfOk};
 
 use event_records::{Event, Namer, Noted, ThreadNo, What};
@@ -7,7 +7,7 @@ use std::alloc::{AllocError, Global};
 use std::test::Fail;
 use tickets::Tickets;
 
-// The calls of a thread's first three operations, which enqueue.
+// Returns the calls of a thread's first three operations, which are enqueues.
 pub(crate) fn three_calls(
     alloc: Global,
     thread: ThreadNo,
@@ -24,7 +24,7 @@ pub(crate) fn three_calls(
     Ok((first, second, third))
 }
 
-// The call of thread 0's n-th operation, at ticket n.
+// Returns the call of thread 0's n-th operation, at ticket n.
 pub(crate) fn call(n: u64) -> Event {
     Event {
         ticket: n,
@@ -33,7 +33,7 @@ pub(crate) fn call(n: u64) -> Event {
     }
 }
 
-// The call of a thread's first operation, an enqueue.
+// Returns the call of a thread's first operation, an enqueue.
 fn first_call(alloc: Global, thread: ThreadNo) -> Result<Noted, AllocError>
     ensures { IfOk result (λ noted. noted.thread ≡ thread) }
 {
@@ -42,7 +42,7 @@ fn first_call(alloc: Global, thread: ThreadNo) -> Result<Noted, AllocError>
     Ok(namer.ask_enq(pass.draw(&tickets)).1)
 }
 
-// Pushes the first call of a thread so often.
+// Pushes the first call of a thread `count` times.
 pub(crate) fn push_calls(
     alloc: Global,
     push: &mut PushEnd,

@@ -6,7 +6,7 @@ use std::thread;
 use std::thread::Threads;
 use tickets::{Pass, Tickets};
 
-// Cuts one ticket off, draws it and another one, and joins, this many times.
+// Splits one ticket off, draws it and another one, and joins the passes again, `count` times.
 fn split_and_join(tickets: &Tickets, mut pass: Pass, count: u64) -> Pass
     requires key { pass.key ≡ tickets.now.key }
     requires room { 2 * count ≤ pass.left }
@@ -15,6 +15,7 @@ fn split_and_join(tickets: &Tickets, mut pass: Pass, count: u64) -> Pass
 {
     for _ in 0..count {
         let (mut kept, mut cut) = pass.split(tickets, 1);
+        // The tickets are dropped: no event gets their numbers, but they count as drawn.
         let _first = cut.draw(tickets).ticket();
         let _second = kept.draw(tickets).ticket();
         pass = kept.join(tickets, cut);
@@ -22,8 +23,9 @@ fn split_and_join(tickets: &Tickets, mut pass: Pass, count: u64) -> Pass
     pass
 }
 
-// Two threads draw 1,000 tickets each of 2,001. Returns what is left of the joined pass, the ticket that it draws then,
-// and how many were drawn in all; none if the pass hasn't the share of both.
+// Draws 1,000 of 2,001 tickets in each of two threads. Returns the number of tickets left in the joined pass, the
+// ticket that it draws then, and the number of tickets drawn in all; or none if the pass doesn't have the share of
+// both.
 fn draw_in_two<R: Threads + Sync>(
     rt: &R,
     alloc: Global,
@@ -50,7 +52,7 @@ fn two_threads_draw_each_number_once(rt: HostRuntime) -> Result<(), Fail> {
     Ok(())
 }
 
-// The first two tickets of a budget, what is left then, and how many were drawn.
+// Returns the first two tickets of a budget, the number of tickets left then, and the number drawn.
 fn first_two(alloc: Global, budget: u64) -> Result<(u64, u64, u64, u64), AllocError>
     requires { (2 ≤ budget) × (budget ≤ 1000000000000) }
 {

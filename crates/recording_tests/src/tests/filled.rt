@@ -5,15 +5,15 @@ use std::alloc::Global;
 use std::test::Fail;
 use tickets::Tickets;
 
-// As many values as a run has operations.
+// The maximum number of operations of a run.
 const MANY: u64 = 1_000_000;
 
-// The two values that a queue holds beforehand.
+// The two initial values of a queue.
 const FIRST: u64 = LEAST_INITIAL_NAME;
 
 const SECOND: u64 = LEAST_INITIAL_NAME + 1;
 
-// Asks a queue to take the first value of this thread.
+// Enqueues the first value of this thread.
 fn put(alloc: Global, queue: &dyn TestQueue, thread: ThreadNo) -> Result<What, Fail> {
     let (tickets, mut pass) = Tickets::new(alloc, 2)?;
     let mut namer = Namer::new(thread);
@@ -22,7 +22,7 @@ fn put(alloc: Global, queue: &dyn TestQueue, thread: ThreadNo) -> Result<What, F
     Ok(answered.stamp(&mut pass, &tickets).event().what)
 }
 
-// Asks a queue for a value.
+// Dequeues from a queue.
 pub(crate) fn take(alloc: Global, queue: &dyn TestQueue) -> Result<What, Fail> {
     let thread = ThreadNo::new(0).ok_or("thread")?;
     let (tickets, mut pass) = Tickets::new(alloc, 2)?;
@@ -32,7 +32,8 @@ pub(crate) fn take(alloc: Global, queue: &dyn TestQueue) -> Result<What, Fail> {
     Ok(answered.stamp(&mut pass, &tickets).event().what)
 }
 
-// How many of this many values a queue takes, up to the first that it refuses: the first values of threads in turn.
+// Enqueues the first values of threads in turn, and returns the number of successful enqueues up to the first that
+// fails, at most `values`.
 fn put_in(alloc: Global, queue: &dyn TestQueue, values: u64) -> Result<u64, Fail> {
     for n in 0..values {
         let thread = ThreadNo::new((n % 64) as u8).ok_or("thread")?;
@@ -44,7 +45,7 @@ fn put_in(alloc: Global, queue: &dyn TestQueue, values: u64) -> Result<u64, Fail
     Ok(values)
 }
 
-// How many of these values a queue gives out in their order, and what it answers then.
+// Returns how many of these values a queue returns in order, and the answer of the next dequeue.
 fn taken_out(alloc: Global, queue: &dyn TestQueue, values: u64) -> Result<(u64, What), Fail> {
     for n in 0..values {
         let found = take(alloc, queue)?;
@@ -55,14 +56,13 @@ fn taken_out(alloc: Global, queue: &dyn TestQueue, values: u64) -> Result<(u64, 
     Ok((values, take(alloc, queue)?))
 }
 
-// Whether a queue takes this many values, and no more if it is asked to take more, then gives them out in their order,
-// and is empty.
+// Returns whether a queue takes `values` of `asked` values, returns them in order, and is empty then.
 fn holds(alloc: Global, queue: &dyn TestQueue, values: u64, asked: u64) -> Result<bool, Fail> {
     let put = put_in(alloc, queue, asked)?;
     Ok(put == values && taken_out(alloc, queue, values)? == (values, What::RetEmpty))
 }
 
-// What two dequeues answer of a queue into which two values were put beforehand.
+// Returns the answers of two dequeues of a queue with two initial values.
 fn preloaded(alloc: Global, queue: &dyn TestQueue) -> Result<(What, What), Fail> {
     if !queue.preload(0, FIRST) || !queue.preload(1, SECOND) {
         return Err("no room".into());
@@ -70,7 +70,7 @@ fn preloaded(alloc: Global, queue: &dyn TestQueue) -> Result<(What, What), Fail>
     Ok((take(alloc, queue)?, take(alloc, queue)?))
 }
 
-// Whether a queue gives its two initial values out in their order, and then holds what it is asked to.
+// Returns whether a queue returns its two initial values in order, and then holds as many values as it should.
 fn keeps(alloc: Global, queue: &dyn TestQueue, values: u64, asked: u64) -> Result<bool, Fail> {
     let in_order = (What::RetDeq(FIRST), What::RetDeq(SECOND));
     Ok(preloaded(alloc, queue)? == in_order && holds(alloc, queue, values, asked)?)

@@ -1,4 +1,4 @@
-// What a queue holds before the first operation.
+// The initial values of a queue.
 ghost use Rattle.std.specs.Prelude.{◌≤◌};
 
 use super::filled::take;
@@ -35,7 +35,7 @@ fn names_of_initial_values_are_told(rt: HostRuntime) -> Result<(), Fail> {
     Ok(())
 }
 
-// Whether this many values in a row may be initial ones.
+// Returns whether `count` consecutive values may be initial ones.
 fn are_names_in_a_row(alloc: Global, count: u64) -> Result<bool, AllocError>
     requires { count ≤ 1000000 }
 {
@@ -50,8 +50,8 @@ fn a_hundred_thousand_initial_values_are_the_most(rt: HostRuntime) -> Result<(),
     Ok(())
 }
 
-// Initial values, a ring's size and the tries of a push; why a run of one dequeue fails on a queue for one value, and
-// why on a proved queue.
+// Initial values, the size of the rings, and the number of tries of a push; then the fault of a run of one dequeue on
+// a queue for one value, and the fault on a proved queue.
 type Case<'a> = (&'a [u64], usize, u32, Option<RunFault>, Option<RunFault>);
 
 const LIMIT: Option<RunFault> = Some(RunFault::Limit);
@@ -63,11 +63,11 @@ const CASES: [Case<'static>; 7] = [
     (&[], 65_537, 1, LIMIT, LIMIT),
     (&[], 2, 0, LIMIT, LIMIT),
     (&[], 2, 10_000_001, LIMIT, LIMIT),
-    // The first value stays in the queue. It is the only one that any of these runs puts in.
+    // The first value stays in the queue. None of these runs enqueues another.
     (&[FIRST, FIRST + 1], 2, 1, Some(RunFault::Preload(1)), None),
 ];
 
-// Whether the runs of a case end as it says.
+// Returns whether the runs of a case have its faults.
 fn end_so<R: Threads + Wait + Sync>(
     rt: &R,
     alloc: Global,

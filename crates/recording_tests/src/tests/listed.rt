@@ -2,7 +2,8 @@ use event_records::OwnedSlice;
 use std::alloc::{AllocError, Global};
 use std::test::Fail;
 
-// How long the list of these items is, whether it is empty, and whether it shows them and gives them back in order.
+// Returns the length of the list of these items, whether it is empty, and whether it shows them and returns them in
+// order.
 fn seen(alloc: Global, items: &[u64]) -> Result<(usize, bool, bool), AllocError> {
     let listed = OwnedSlice::from_vec(Vec::from_slice(alloc, items)?);
     let (len, is_empty) = (listed.len(), listed.is_empty());

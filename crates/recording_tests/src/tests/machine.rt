@@ -6,7 +6,7 @@ use std::alloc::Global;
 use std::process::Abort;
 use std::test::Fail;
 
-/// A step, and what it must be answered.
+/// A step, and its expected answer.
 type Case = (Step, Result<Done, StepRefused>);
 
 /// Takes the steps of a table and compares each answer.
@@ -19,7 +19,7 @@ fn take_all(rt: &impl Abort, machine: &mut Machine, cases: &[Case])
     }
 }
 
-/// Steps of a thread that the machine hasn't.
+/// Steps of a thread that the machine doesn't have.
 const UNKNOWN: [Case; 8] = [
     (Step::AskEnq(2), Err(StepRefused::NoThread)),
     (Step::AskDeq(2), Err(StepRefused::NoThread)),
@@ -44,7 +44,7 @@ const CLOSED: [Case; 9] = [
     (Step::Drain(1, 3), Ok(Done::Drained(0))),
 ];
 
-/// An enqueue and a dequeue of thread 0, with steps that are refused because they are too early or too late. The
+/// An enqueue and a dequeue of thread 0, with steps that are refused because they come too early or too late. The
 /// machine begins with one value.
 const OPEN: [Case; 28] = [
     (Step::Push(0), Err(StepRefused::NothingHeld)),
@@ -80,8 +80,8 @@ const OPEN: [Case; 28] = [
     ),
 ];
 
-/// The end of that dequeue, one that gets the enqueued value, one that finds none, and one that gets its answer from
-/// outside.
+/// The end of that dequeue, a dequeue of the enqueued value, an empty dequeue, and a dequeue that is given its
+/// answer.
 const ENDED: [Case; 24] = [
     (Step::Ret(0), Ok(Done::Ticket(3))),
     (Step::Push(0), Err(StepRefused::RingFull)),
@@ -112,7 +112,7 @@ const ENDED: [Case; 24] = [
     (Step::Close(0), Ok(Done::Closed)),
 ];
 
-/// What these steps leave of thread 0.
+/// The events of thread 0 after these steps.
 const COLLECTED: [What; 10] = [
     What::CallEnq(0),
     What::RetEnq,
@@ -126,7 +126,7 @@ const COLLECTED: [What; 10] = [
     What::RetDeq(5),
 ];
 
-/// Whether these are the events that are to be collected of thread 0.
+/// Returns whether these are the events to be collected of thread 0.
 fn are_collected(events: &[Event]) -> bool {
     for (n, event) in events.iter().enumerate() {
         if event.ticket != n as u64 || event.thread != 0 || COLLECTED.get(n) != Some(&event.what) {
@@ -149,7 +149,7 @@ fn each_answer_to_each_step(rt: HostRuntime) -> Result<(), Fail> {
     Ok(())
 }
 
-/// A dequeue of this thread, told that the queue is empty, from the ask to the drain of its events.
+/// Runs an empty dequeue of this thread, from its call to the drain of its events.
 fn operate(machine: &mut Machine, thread: u8) -> Result<(), StepRefused> {
     let steps = [
         Step::AskDeq(thread),
@@ -172,13 +172,14 @@ fn operate_up_to_limit(machine: &mut Machine, thread: u8) -> Result<(), StepRefu
     Ok(())
 }
 
-/// Whether the limit refuses a further operation of a thread, whichever it is.
+/// Returns whether the limit refuses another enqueue and another dequeue of a thread.
 fn is_limited(machine: &mut Machine, thread: u8) -> bool {
     let limit = Err(StepRefused::Limit);
     machine.step(Step::AskEnq(thread)) == limit && machine.step(Step::AskDeq(thread)) == limit
 }
 
-/// Whether a thread that made all its operations is limited, and one that made none after ten threads made all theirs.
+/// Returns whether a thread is limited that made all its operations, and one that made none after ten threads made
+/// all theirs.
 fn are_limited(alloc: Global) -> Result<(bool, bool), Fail> {
     let mut machine = Machine::new(alloc, 11, 2)?;
     operate_up_to_limit(&mut machine, 0)?;

@@ -13,7 +13,7 @@ const FIRST_WORDS: [(u64, u64); 3] = [
     (42, 4_178_418_447_715_145_737),
 ];
 
-// The text of a plan.
+// Returns the text of a plan.
 fn written(alloc: Global, plan: &Plan) -> Result<String, AllocError> {
     let mut text = String::new(alloc);
     for row in plan.rows() {
@@ -28,14 +28,14 @@ fn written(alloc: Global, plan: &Plan) -> Result<String, AllocError> {
     Ok(text)
 }
 
-// How many workers and operations the plan of a text has, and whether it is written as this text again.
+// Returns the numbers of workers and operations in the plan of a text, and whether its text is this one again.
 fn read(alloc: Global, text: &str) -> Result<(usize, u64, bool), PlanFault> {
     let plan = Plan::from_text(alloc, text)?;
     let is_again = written(alloc, &plan)?.as_str() == text;
     Ok((plan.rows().len(), plan.operations(), is_again))
 }
 
-// A text, and what is read of it.
+// A text, and the result of reading it.
 const TEXTS: [(&str, Result<(usize, u64, bool), PlanFault>); 11] = [
     ("EDE\nD\n", Ok((2, 4, true))),
     ("\n", Ok((1, 0, true))),
@@ -74,7 +74,7 @@ fn first_words_are_the_published_ones(rt: HostRuntime) {
     }
 }
 
-// The text of the plan of this many workers, each with one dequeue, if there is one.
+// Returns the text of the plan of this many workers with one dequeue each, if there is such a plan.
 fn planned(alloc: Global, workers: usize) -> Result<Option<String>, AllocError> {
     let mut rows = Vec::new(alloc);
     for _ in 0..workers {
@@ -86,7 +86,7 @@ fn planned(alloc: Global, workers: usize) -> Result<Option<String>, AllocError> 
     }
 }
 
-// How many workers have a plan, with its text.
+// The number of workers, and the text of their plan if they have one.
 const PLANNED: [(usize, Option<&str>); 4] = [
     (0, None),
     (2, Some("D\nD\n")),
@@ -108,7 +108,7 @@ fn rows_within_the_limits_are_a_plan(rt: HostRuntime) -> Result<(), Fail> {
     Ok(())
 }
 
-// The text of a plan of this many workers, each of which makes 100,000 enqueues.
+// Returns the text of a plan in which each of this many workers makes 100,000 enqueues.
 fn enqueues(alloc: Global, workers: usize) -> Result<String, AllocError>
     requires { workers ≤ 32 }
 {
@@ -119,7 +119,7 @@ fn enqueues(alloc: Global, workers: usize) -> Result<String, AllocError>
     Ok(text)
 }
 
-// How many operations the plan of that text has.
+// Returns the number of operations in the plan of that text.
 fn operations_of(alloc: Global, workers: usize) -> Result<u64, PlanFault>
     requires { workers ≤ 32 }
 {

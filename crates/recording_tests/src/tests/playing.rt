@@ -15,13 +15,13 @@ const CLOSED: [Step; 8] = [
     Step::Close(0),
 ];
 
-/// The step of these that is refused.
+/// The refused step.
 const REJECTED: [Rejection; 1] = [Rejection {
     step: 1,
     reason: StepRefused::NothingHeld,
 }];
 
-/// The events that they leave.
+/// The events collected after these steps.
 const COLLECTED: [Event; 2] = [
     Event {
         ticket: 0,

@@ -1,4 +1,4 @@
-// Runs over the proved queues.
+// Runs on the proved queues.
 use event_records::What::{CallDeq, CallEnq, RetDeq, RetEmpty, RetEnq};
 use event_records::{Event, LEAST_INITIAL_NAME, Lists, What};
 use std::alloc::Global;
@@ -8,7 +8,7 @@ use std::thread::Threads;
 use stress_run::{ProvedQueue, run_proved};
 use workloads::Plan;
 
-// The events of a worker's plan `EDEDDD` on a queue that holds one value.
+// The events of a worker's plan `EDEDDD` on a queue with one initial value.
 const EVENTS: [What; 12] = [
     CallEnq(0),
     RetEnq,
@@ -24,7 +24,7 @@ const EVENTS: [What; 12] = [
     RetEmpty,
 ];
 
-// Whether a list has these events.
+// Returns whether a list has these events.
 fn are_wanted(list: &[Event]) -> bool {
     for (n, event) in list.iter().enumerate() {
         if EVENTS.get(n) != Some(&event.what) {
@@ -34,8 +34,8 @@ fn are_wanted(list: &[Event]) -> bool {
     list.len() == EVENTS.len()
 }
 
-// Whether the one list of a run of that plan has these events, whether it begins with that value, and how many tickets
-// it drew.
+// Returns whether the only list of a run of that plan has these events, whether the run has that initial value, and
+// the number of tickets drawn.
 fn run_alone<R: Threads + Wait + Sync>(
     rt: &R,
     alloc: Global,
@@ -63,7 +63,7 @@ fn nodes_with_two_locks_give_the_first_value(rt: HostRuntime) -> Result<(), Fail
     Ok(())
 }
 
-// Whether a dequeue of a list got a value.
+// Returns whether a dequeue of a list returned a value.
 fn is_one_dequeued(list: &[Event]) -> bool {
     for event in list {
         if matches!(event.what, RetDeq(_)) {
@@ -73,7 +73,7 @@ fn is_one_dequeued(list: &[Event]) -> bool {
     false
 }
 
-// Whether a dequeue of these lists got a value.
+// Returns whether a dequeue of these lists returned a value.
 fn is_any_dequeued(lists: &Lists) -> bool {
     for list in lists.as_slice() {
         if is_one_dequeued(list) {
@@ -83,7 +83,7 @@ fn is_any_dequeued(lists: &Lists) -> bool {
     false
 }
 
-// Whether a dequeue of four workers got a value, and how many tickets they drew.
+// Returns whether a dequeue of four workers returned a value, and the number of tickets drawn.
 fn run_four<R: Threads + Wait + Sync>(
     rt: &R,
     alloc: Global,

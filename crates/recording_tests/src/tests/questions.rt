@@ -3,7 +3,7 @@ use std::alloc::{AllocError, Global};
 use std::test::Fail;
 use tickets::Tickets;
 
-// The value and the events of a thread's first enqueue, which is answered so.
+// Returns the value and the events of a thread's first enqueue, which is answered like this.
 fn enqueued(
     alloc: Global,
     thread: ThreadNo,
@@ -18,7 +18,7 @@ fn enqueued(
     Ok((value, call.event(), returned.event()))
 }
 
-// The events of a thread's first dequeue, which is answered so.
+// Returns the events of a thread's first dequeue, which is answered like this.
 fn dequeued(
     alloc: Global,
     thread: ThreadNo,
@@ -35,7 +35,7 @@ fn dequeued(
     Ok((call.event(), returned.event()))
 }
 
-// Whether these are the call and the return of an operation of this thread, at tickets 0 and 1.
+// Returns whether these are the call and the return of an operation of this thread, at tickets 0 and 1.
 fn are_noted(events: (Event, Event), thread: u8, call: What, ret: What) -> bool {
     let (called, returned) = events;
     called
@@ -52,7 +52,7 @@ fn are_noted(events: (Event, Event), thread: u8, call: What, ret: What) -> bool 
             }
 }
 
-// A thread, the value of its first enqueue, whether that is taken, and the return.
+// A thread, the value of its first enqueue, whether the enqueue succeeds, and the return.
 const ENQUEUES: [(u8, u64, bool, What); 4] = [
     (0, 0, true, What::RetEnq),
     (1, 4_294_967_296, false, What::RetNot),
@@ -71,7 +71,7 @@ fn enqueues_are_noted(rt: HostRuntime) -> Result<(), Fail> {
     Ok(())
 }
 
-// What a dequeue gets, and its return.
+// The value of a dequeue, if it returns one, and the return.
 const DEQUEUES: [(Option<u64>, What); 2] = [(Some(9), What::RetDeq(9)), (None, What::RetEmpty)];
 
 #[test]

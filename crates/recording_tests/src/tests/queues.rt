@@ -15,7 +15,8 @@ enum Call {
     Take,
 }
 
-// The first take finds nothing. Two values are given beforehand, calls that no list counts, and then five are put in.
+// The first dequeue finds the list empty. Then there are two initial values, whose calls no list counts, and five
+// enqueues.
 const CALLS: [Call; 18] = [
     Call::Take,
     Call::Preload(8),
@@ -67,7 +68,7 @@ const LAST_FIRST: Taken = [
     None,
 ];
 
-// Each 4th value that is found stays; the first take finds none.
+// Each 4th value that is found stays. The first dequeue finds none.
 const DOUBLED: Taken = [
     None,
     Some(8),
@@ -82,7 +83,7 @@ const DOUBLED: Taken = [
     None,
 ];
 
-// Each 4th take invents a value.
+// Each 4th dequeue invents a value.
 const INVENTED: Taken = [
     None,
     Some(8),
@@ -97,7 +98,7 @@ const INVENTED: Taken = [
     None,
 ];
 
-// Each 4th take finds nothing.
+// Each 4th dequeue finds the list empty.
 const SHY: Taken = [
     None,
     Some(8),
@@ -112,7 +113,7 @@ const SHY: Taken = [
     None,
 ];
 
-// Each 4th value that is put in is lost.
+// Each 4th enqueued value is lost.
 const LOST: Taken = [
     None,
     Some(8),
@@ -127,7 +128,7 @@ const LOST: Taken = [
     None,
 ];
 
-// What a list gives out in these calls, if it takes all values.
+// Returns the values that a list returns in these calls, if it takes all values.
 fn taken_out<L: ValueList>(alloc: Global) -> Result<Vec<Option<u64>>, AllocError> {
     let mut list = L::empty(alloc);
     let mut out = Vec::new(alloc);
@@ -147,7 +148,7 @@ fn taken_out<L: ValueList>(alloc: Global) -> Result<Vec<Option<u64>>, AllocError
     Ok(out)
 }
 
-// Whether a list gives these out.
+// Returns whether a list returns these.
 fn gives<L: ValueList>(alloc: Global, taken: &Taken) -> Result<bool, AllocError> {
     Ok(taken_out::<L>(alloc)?.as_slice() == taken.as_slice())
 }
@@ -164,7 +165,7 @@ fn lists_keep_the_order_or_break_it_as_they_are_called(rt: HostRuntime) -> Resul
     Ok(())
 }
 
-// Whether a queue takes a value beforehand, and answers empty then.
+// Returns whether a queue takes an initial value, and then has an empty dequeue.
 fn ignores_a_value(alloc: Global, queue: &dyn TestQueue) -> Result<bool, Fail> {
     Ok(queue.preload(0, LEAST_INITIAL_NAME) && take(alloc, queue)? == What::RetEmpty)
 }
@@ -173,7 +174,7 @@ fn ignores_a_value(alloc: Global, queue: &dyn TestQueue) -> Result<bool, Fail> {
 fn a_script_and_a_gate_ignore_initial_values(rt: HostRuntime) -> Result<(), Fail> {
     let script = ScriptQueue::new(Vec::new(rt.alloc()));
     assert!(rt; ignores_a_value(rt.alloc(), &script)?);
-    // The gate counts the calls that saw all arrive: not the first, but the second.
+    // The gate counts the calls that saw all arrive: the second, but not the first.
     let gate = GateQueue::new(2, 3);
     assert!(rt; ignores_a_value(rt.alloc(), &gate)? && gate.passed() == 0);
     assert!(rt; ignores_a_value(rt.alloc(), &gate)? && gate.passed() == 1);

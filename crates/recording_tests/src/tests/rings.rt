@@ -4,8 +4,8 @@ use event_rings::ring;
 use std::alloc::Global;
 use std::test::Fail;
 
-// What is seen of a ring of two events to which a third is pushed: the event that comes back, how many events are
-// drained then, and these with all that is sealed after the third was pushed again.
+// Pushes a third event into a ring of two. Returns the event handed back, the number of events drained then, and
+// these events followed by those that are sealed after the third is pushed again.
 fn overfilled(alloc: Global) -> Result<(Event, usize, Vec<Event>), Fail> {
     let thread = ThreadNo::new(0).ok_or("thread")?;
     let (first, second, third) = three_calls(alloc, thread)?;

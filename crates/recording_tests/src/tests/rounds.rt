@@ -8,7 +8,7 @@ use event_rings::{CloseToken, DrainEnd, MAX_RING, PushEnd, ring};
 use std::alloc::Global;
 use std::test::Fail;
 
-// The ring of a thread, closed with nothing in it.
+// Returns the ring of a thread, closed without events.
 fn closed_ring(alloc: Global, thread: ThreadNo) -> Result<(DrainEnd, CloseToken), Fail>
     ensures thread { IfOk result (λ r. (r.0.thread ≡ thread) × (r.1.thread ≡ thread)) }
     ensures ring { IfOk result (λ r. r.1.ring ≡ r.0.ring) }
@@ -19,7 +19,7 @@ fn closed_ring(alloc: Global, thread: ThreadNo) -> Result<(DrainEnd, CloseToken)
     Ok((drain, token))
 }
 
-// The thread whose ring isn't certified if those of threads 0 and 1 are sealed by each other's tokens.
+// Returns the thread whose ring isn't certified if the rings of threads 0 and 1 are sealed with each other's tokens.
 fn seal_swapped(alloc: Global) -> Result<u8, Fail> {
     let zero = ThreadNo::new(0).ok_or("thread")?;
     let one = ThreadNo::new(1).ok_or("thread")?;
@@ -38,7 +38,7 @@ fn swapped_tokens_are_not_certified(rt: HostRuntime) -> Result<(), Fail> {
     Ok(())
 }
 
-// How many events the one ring gave, sealed by its token.
+// Returns the number of events of the only ring, sealed with its token.
 fn seal_one(alloc: Global, collector: Collector, token: CloseToken) -> Result<usize, Fail>
     requires { rings_of collector.rings ≡ (token.ring, token.thread) ∷ [] }
 {
@@ -49,8 +49,8 @@ fn seal_one(alloc: Global, collector: Collector, token: CloseToken) -> Result<us
     }
 }
 
-// How many events two rounds drain of a ring of the greatest size, which is filled before each, and how many are sealed
-// after it is filled once more.
+// Fills a ring of the greatest size before each of two rounds, and once more. Returns the numbers of events that the
+// rounds drain, and the number that is sealed.
 fn greatest(alloc: Global) -> Result<(u64, u64, usize), Fail> {
     let thread = ThreadNo::new(0).ok_or("thread")?;
     let (mut push, drain) = ring(alloc, thread, MAX_RING)?;
@@ -62,7 +62,7 @@ fn greatest(alloc: Global) -> Result<(u64, u64, usize), Fail> {
     Ok((first, second, seal_one(alloc, collector, token)?))
 }
 
-// How many events a round drains of a ring of the greatest size, which is filled before.
+// Fills a ring of the greatest size, and returns the number of events that a round drains.
 fn fill_and_drain(
     alloc: Global,
     push: &mut PushEnd,

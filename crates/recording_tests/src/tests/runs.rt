@@ -7,8 +7,8 @@ use std::thread::Threads;
 use stress_run::run;
 use workloads::Plan;
 
-// How many calls of two dequeues of each worker saw those of all workers arrive at a gate. The rings have room for one
-// dequeue.
+// Runs two dequeues of each worker on a gate, and returns how many of the calls saw those of all workers arrive. The
+// rings have room for one dequeue.
 fn run_through_gate<R: Threads + Sync>(
     rt: &R,
     alloc: Global,
@@ -29,7 +29,7 @@ fn workers_are_inside_the_queue_at_once(rt: HostRuntime) -> Result<(), Fail> {
     Ok(())
 }
 
-// A script in which each worker's first value is taken.
+// Returns a script in which each worker's first enqueue succeeds.
 fn a_value_of_each(alloc: Global) -> Result<ScriptQueue, AllocError> {
     let mut rows = Vec::new(alloc);
     for _ in 0..MAX_WORKERS {
@@ -38,7 +38,7 @@ fn a_value_of_each(alloc: Global) -> Result<ScriptQueue, AllocError> {
     Ok(ScriptQueue::new(rows))
 }
 
-// Whether these are the call and the return of a worker's first enqueue.
+// Returns whether these are the call and the return of a worker's first enqueue.
 fn is_first_enqueue(worker: usize, events: &[Event]) -> bool {
     match events {
         [call, ret] => {
@@ -49,11 +49,11 @@ fn is_first_enqueue(worker: usize, events: &[Event]) -> bool {
     }
 }
 
-// A worker each that enqueues once.
+// A plan of 32 workers with one enqueue each.
 const THIRTY_TWO: &str =
     "E\nE\nE\nE\nE\nE\nE\nE\nE\nE\nE\nE\nE\nE\nE\nE\nE\nE\nE\nE\nE\nE\nE\nE\nE\nE\nE\nE\nE\nE\nE\nE\n";
 
-// Whether each list has the call and the return of its worker's first enqueue.
+// Returns whether each list has the call and the return of its worker's first enqueue.
 fn are_first_enqueues(lists: &Lists) -> bool {
     let lists = lists.as_slice();
     for (worker, list) in lists.iter().enumerate() {
@@ -64,7 +64,7 @@ fn are_first_enqueues(lists: &Lists) -> bool {
     lists.len() == 32
 }
 
-// Whether the tickets of all lists are 0, 1, 2 and on, this many.
+// Returns whether the tickets of all lists are 0, 1, 2 and so on, `count` in all.
 fn are_first_tickets(alloc: Global, lists: &Lists, count: usize) -> Result<bool, AllocError> {
     let merged = merge(alloc, lists)?;
     for (n, event) in merged.iter().enumerate() {
@@ -75,7 +75,8 @@ fn are_first_tickets(alloc: Global, lists: &Lists, count: usize) -> Result<bool,
     Ok(merged.len() == count)
 }
 
-// Whether the lists of a run of such workers are theirs, whether they have the first 64 tickets, and how many it drew.
+// Runs that plan. Returns whether the lists are those of its workers, whether they have the first 64 tickets, and the
+// number of tickets drawn.
 fn run_thirty_two<R: Threads + Sync>(rt: &R, alloc: Global) -> Result<(bool, bool, u64), Fail> {
     let plan = Plan::from_text(alloc, THIRTY_TWO)?;
     let queue = a_value_of_each(alloc)?;

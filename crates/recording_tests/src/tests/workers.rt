@@ -10,7 +10,8 @@ use std::test::Fail;
 use stress_run::{Worker, WorkerFault, one_call};
 use tickets::Tickets;
 
-// A worker with ten tickets, a ring of two and three tries, and the other end of the ring, which nobody drains.
+// Returns a worker with ten tickets, a ring of two and three tries, and the other end of the ring, which is never
+// drained.
 fn lone_worker(alloc: Global) -> Result<(Tickets, Worker, DrainEnd), Fail>
     ensures key { IfOk result (λ made. made.1.pass.key ≡ made.0.key) }
     ensures left { IfOk result (λ made. made.1.pass.left ≡ 10) }
@@ -23,7 +24,7 @@ fn lone_worker(alloc: Global) -> Result<(Tickets, Worker, DrainEnd), Fail>
     Ok((tickets, worker, drain))
 }
 
-// One operation, which draws two tickets at most whatever it answers.
+// Runs one operation, which draws at most two tickets.
 fn operate(
     worker: &mut Worker,
     tickets: &Tickets,
@@ -43,7 +44,7 @@ fn operate(
     }
 }
 
-// Whether a worker makes an enqueue, and stalls in the operation after it, or in one more too.
+// Returns whether a worker completes an enqueue and stalls in its next operation, and, if `one_more`, in one more.
 fn stalls(
     worker: &mut Worker,
     tickets: &Tickets,
@@ -64,8 +65,8 @@ fn stalls(
     first.is_ok() && last == stalled && worker.is_stopped()
 }
 
-// What a worker does that nobody drains, if its second operation is of this kind: how many questions its queue was
-// asked, and how many tickets it has drawn, if it is closed after the call that stalls or after one more.
+// Runs a worker whose ring is never drained. Its second operation is of this kind, and if `one_more` it makes a
+// third. Returns the number of questions that its queue was asked, and the number of tickets drawn.
 fn asked_and_drawn(alloc: Global, kind: Kind, one_more: bool) -> Result<(Option<u64>, u64), Fail> {
     let (tickets, mut worker, _drain) = lone_worker(alloc)?;
     let queue = CountingQueue::new();
@@ -76,7 +77,7 @@ fn asked_and_drawn(alloc: Global, kind: Kind, one_more: bool) -> Result<(Option<
     Ok((queue.asked(), pass.share() - pass.left()))
 }
 
-// A queue is not asked before the call is pushed.
+// A queue isn't asked before the call is pushed.
 #[test]
 fn a_worker_stalls_where_nobody_drains(rt: HostRuntime) -> Result<(), Fail> {
     for kind in [Kind::Enq, Kind::Deq] {

@@ -178,7 +178,8 @@ const FRESH: &[u8] =
 
 /// 588 wide because of the fixed words. Below 252, where rows begin, are three rows and the names.
 const FRESH_BEGINS: &str = "<?xml version=\"1.0\" encoding=\"UTF-8\"?>\n\
-<svg xmlns=\"http://www.w3.org/2000/svg\" version=\"1.1\" width=\"588\" height=\"338\" viewBox=\"0 0 588 338\" role=\"img\">\
+<svg xmlns=\"http://www.w3.org/2000/svg\" version=\"1.1\" width=\"588\" height=\"338\" \
+viewBox=\"0 0 588 338\" role=\"img\">\
 <title>NO: a value was dequeued that was not there</title>\n\
 <desc>7 was dequeued (1), but nobody ever enqueued it.\n</desc>\n<style>";
 
@@ -209,7 +210,8 @@ fn draws_a_value_that_was_not_there_in_documents(rt: HostRuntime) -> Result<(), 
 /// window cuts off its lower edge.
 const OPEN_BAR: &str =
     "<g class=\"yes\"><title>thread 1: deq 7, ticket 1, never returned, number 2</title>\n\
-<svg width=\"283\" height=\"352\"><rect x=\"207\" y=\"255\" width=\"70\" height=\"117\" rx=\"9\" class=\"deq\"></rect>\n</svg>\n\
+<svg width=\"283\" height=\"352\">\
+<rect x=\"207\" y=\"255\" width=\"70\" height=\"117\" rx=\"9\" class=\"deq\"></rect>\n</svg>\n\
 <text x=\"213\" y=\"276\" textLength=\"35\" class=\"label\">deq 7</text>\n</g>\n";
 
 /// The bar of the enqueue, which returned: from 215 to the row of its return, the fifth.

@@ -21,7 +21,8 @@ pub returns-clause-deciding : goal.returns-clause-deciding
 returns-clause-deciding c =
     when_both c.complete_history.result _ _ _ (λ full is within.
     subst (IsDeciding c.args.initial.now c.args.events.items) (sym is)
-    (decides c.args.initial.now c.args.events.items (may_be_pending c.args.initial.now c.args.events.items (rw c.as_slice.ensures.value at c.in_ok-walk.ensures.found)) c.requires.few_initial
+    (decides c.args.initial.now c.args.events.items (may_be_pending c.args.initial.now c.args.events.items
+    (rw c.as_slice.ensures.value at c.in_ok-walk.ensures.found)) c.requires.few_initial
     (within_limits c.args.initial.now c.args.events.items within).1))
     c.complete_history.ensures.completed (when_known c.complete_history.result _ c.complete_history.ensures.within)
 

@@ -6,7 +6,7 @@ use Rattle.history_text.specs.Versions.{said_in}
 use Rattle.commands.proofs.OneAnswer.{check_has_one}
 use Rattle.fifobench_c.proofs.laws.events_and_their_text_agree.Goals as goal
 
--- what the text of these events says
+-- the text of these events
 abbrev said : List Event → HistoryText
 said events = said_in One (from_none events)
 
