@@ -1,16 +1,16 @@
-//! What a message is about.
+//! The subjects of messages.
 use history_merge::{Clash, HistoryFault};
 use stress_run::RunFault;
 use text_lines::TextFault;
 
-/// What a command reads.
+/// The kind of input that a command reads.
 #[derive(Clone, Copy, PartialEq, Eq)]
 pub enum Reads {
     /// A history, and nothing after it.
     History,
     /// A history and a verdict.
     Claim,
-    /// A history, and a verdict where anything follows.
+    /// A history, then a verdict if anything follows.
     Drawable,
     /// A history whose calls may be pending, or a pending text.
     Pending,
@@ -18,31 +18,32 @@ pub enum Reads {
     Schedule,
 }
 
-/// What a command was given, as far as it is kept.
+/// The input of a command, as far as it is kept.
 #[derive(Clone, Copy)]
 pub struct Given<'a> {
-    /// What it reads.
+    /// The kind of input.
     pub reads: Reads,
-    /// The front of what was read.
+    /// The front of the bytes that were read.
     pub front: &'a [u8],
-    /// Whether that is all that was read.
+    /// True if the front is all that was read.
     pub is_whole: bool,
 }
 
-/// What a message is about: why a command found nothing, or wrote nothing.
+/// The reason why a command found nothing, or wrote nothing.
 #[derive(Clone, Copy)]
 pub enum Complaint<'a> {
     /// The input isn't the text that it should be.
     Text(TextFault, Given<'a>),
-    /// The events of the input are no complete history; what clashes there, if that is known.
+    /// The events of the input are no complete history. The clash says which lines contradict each other, if that is
+    /// known.
     History(HistoryFault, Option<Clash>, Given<'a>),
     /// The history or the verdict is too large to be drawn.
     Size,
-    /// The verdict has a linearization for each producer, and no one picture.
+    /// The verdict has a linearization for each producer, which one picture can't show.
     Orders,
-    /// None of these queues has this name.
+    /// No queue has this name; these are the names that there are.
     Queue { name: &'a str, names: &'a [&'a str] },
-    /// This many threads, with this many operations each, are more than a run may have.
+    /// A run may not have so many threads with so many operations each.
     Limit { threads: u64, operations: u64 },
     /// The completion of a history has more events than a history may have, or a ticket above the greatest.
     Completion,

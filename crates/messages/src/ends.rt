@@ -5,7 +5,7 @@ use crate::message::Blank::{Number, Shown, Words};
 use crate::message::Message;
 use std::alloc::{AllocError, Global};
 
-/// The text that is read first.
+/// Names the text that is read first.
 fn text_name(reads: Reads) -> &'static str {
     match reads {
         Reads::Schedule => "schedule",
@@ -13,7 +13,7 @@ fn text_name(reads: Reads) -> &'static str {
     }
 }
 
-/// What the last line counts.
+/// Names what the last line counts.
 pub(crate) fn counted_in(reads: Reads) -> &'static str {
     match reads {
         Reads::Schedule => "steps",
@@ -21,12 +21,12 @@ pub(crate) fn counted_in(reads: Reads) -> &'static str {
     }
 }
 
-/// How many line feeds there are.
+/// Counts the line feeds.
 fn line_feeds(bytes: &[u8]) -> usize {
     bytes.iter().filter(|byte| **byte == b'\n').count()
 }
 
-/// The input ends within its last line.
+/// Builds the message for an input that ends within its last line.
 fn within_line(alloc: Global, given: &Given<'_>) -> Result<Message, AllocError> {
     let number = (line_feeds(given.front) as u64).saturating_add(1);
     let line = line_of(given, number).unwrap_or(b"");
@@ -38,7 +38,7 @@ fn within_line(alloc: Global, given: &Given<'_>) -> Result<Message, AllocError> 
     )
 }
 
-/// The input ends after a whole line.
+/// Builds the message for an input that ends after a whole line.
 fn behind_line(alloc: Global, given: &Given<'_>) -> Result<Message, AllocError> {
     let number = Number(line_feeds(given.front) as u64);
     if given.reads == Reads::Claim && end_line(given).is_some() {
@@ -57,7 +57,7 @@ fn behind_line(alloc: Global, given: &Given<'_>) -> Result<Message, AllocError> 
     )
 }
 
-/// The input ends too early.
+/// Builds the message for an input that ends too early.
 pub(crate) fn cut_message(alloc: Global, given: &Given<'_>) -> Result<Message, AllocError> {
     let sentence = if !given.is_whole {
         "the input ends before its {} does"
@@ -71,7 +71,7 @@ pub(crate) fn cut_message(alloc: Global, given: &Given<'_>) -> Result<Message, A
     Message::of(alloc, sentence, &[Words(text_name(given.reads))], "")
 }
 
-/// What is to be done about a line after the text.
+/// Returns the advice for a line after the text.
 fn hint_behind(reads: Reads, line: &[u8]) -> &'static str {
     if reads == Reads::Schedule {
         "sim takes one schedule: take the first by sed '/^end /q'"
@@ -84,7 +84,7 @@ fn hint_behind(reads: Reads, line: &[u8]) -> &'static str {
     }
 }
 
-/// The input goes on after its text.
+/// Builds the message for an input that goes on after its text.
 pub(crate) fn trailing_message(alloc: Global, given: &Given<'_>) -> Result<Message, AllocError> {
     let name = Words(text_name(given.reads));
     let Some(end) = end_line(given) else {

@@ -5,12 +5,12 @@ use std::alloc::Global;
 use std::marker::Model;
 use text_lines::{ReadFailed, TextSource};
 
-/// The most bytes that are kept: some 6,000 lines, so that what is kept for a message costs a short check little.
+/// The maximum number of bytes that are kept: some 6,000 lines, which cost a short check little.
 pub const MOST_KEPT: usize = 1 << 17;
 
 /// A source that keeps the front of what it gives, at most 128 KiB, so that a message can show a line of it.
 ///
-/// What it gives is what the source gives. Where no memory is left for the front, no more of it is kept.
+/// It gives what the source gives. If memory runs out for the front, no more of it is kept.
 #[derive(Drop)]
 pub struct FrontKept<S> {
     source: S,
@@ -27,7 +27,7 @@ impl<S> Model for FrontKept<S> {
 }
 
 impl<S> FrontKept<S> {
-    /// Nothing is kept yet.
+    /// Wraps a source. Nothing is kept yet.
     pub fn new(alloc: Global, source: S) -> Self
         ensures { result ≡ record { source = source; front = []; is_whole = true } }
     {
@@ -38,21 +38,21 @@ impl<S> FrontKept<S> {
         }
     }
 
-    /// The bytes that are kept: the front of what was given.
+    /// Returns the bytes that are kept: the front of what was given.
     pub fn front(&self) -> &[u8]
         ensures { result.now ≡ self.now.front }
     {
         self.front.as_slice()
     }
 
-    /// Whether they are all that was given.
+    /// Returns whether the kept bytes are all that was given.
     pub fn is_whole(&self) -> bool
         ensures { result ≡ self.now.is_whole }
     {
         self.is_whole
     }
 
-    /// Keeps these bytes too, where all before them are kept and there is room.
+    /// Keeps these bytes too, if all before them are kept and there is room.
     fn keep(&mut self, given: &[u8])
         ensures source { self.new.source ≡ self.old.source }
         ensures kept { self.new.is_whole ≡ true → (self.old.is_whole ≡ true) × (self.new.front ≡ self.old.front ++ given.now) }

@@ -7,18 +7,18 @@ use event_records::What;
 use history_merge::{Clash, HistoryFault, Placed};
 use std::alloc::{AllocError, Global};
 
-/// How tickets come to rise.
+/// Advice: how tickets come to rise.
 const BY_TICKET: &str =
     "events stand by rising ticket: draw each ticket from one counter that all threads share";
 
-/// How tickets come to rise that are readings of clocks.
+/// Advice: how tickets that are clock readings come to rise.
 const BY_CLOCK: &str =
     "readings of a clock become tickets by examples/from-clocks; or draw tickets from one counter";
 
-/// Above this, a ticket is rather the reading of a clock than a count of a recorder.
+/// A ticket above this is more likely a clock reading than a recorder's count.
 const RATHER_A_CLOCK: u64 = 100_000_000;
 
-/// Returns how tickets come to rise like these.
+/// Returns the advice for tickets of this size.
 fn order_hint(before: u64, later: u64) -> &'static str {
     if before == later || before > RATHER_A_CLOCK {
         BY_CLOCK
@@ -27,27 +27,27 @@ fn order_hint(before: u64, later: u64) -> &'static str {
     }
 }
 
-/// How values come to be distinct.
+/// Advice: how values come to be distinct.
 const DISTINCT: &str =
     "each enqueue needs a value of its own: give the thread and a count in one number";
 
-/// How calls come to have returns.
+/// Advice: how calls come to have returns.
 const OPEN_CALLS: &str =
     "a history has the return of each call: fifobench complete < FILE | fifobench check judges one with pending calls";
 
-/// The line of the initial value at a place from 0.
+/// Returns the line number of the initial value at a place from 0.
 fn initial_line(place: usize) -> u64 {
     (place as u64).saturating_add(3)
 }
 
-/// The line of the event at a place from 0.
+/// Returns the line number of the event at a place from 0.
 fn event_line(given: &Given<'_>, place: usize) -> u64 {
     (place as u64)
         .saturating_add(1)
         .saturating_add(lines_before(given))
 }
 
-/// What is wrong with the event at a place, whose line is shown if it is kept.
+/// Builds the message for a fault of the event at a place. It shows the event's line if that is kept.
 fn event_message<'a>(
     alloc: Global,
     given: &Given<'a>,
@@ -64,12 +64,12 @@ fn event_message<'a>(
     }
 }
 
-/// The line of an event, as it fills a blank.
+/// Returns the line number of an event, as a blank's text.
 fn line_blank(given: &Given<'_>, of: &Placed) -> Blank<'static> {
     Number(event_line(given, of.place))
 }
 
-/// A ticket isn't above that of the event before.
+/// Builds the message for a ticket that isn't above that of the event before.
 fn order_message(
     alloc: Global,
     given: &Given<'_>,
@@ -87,7 +87,7 @@ fn order_message(
     Message::of(alloc, sentence, &blanks, hint)
 }
 
-/// A thread calls while its last call is pending.
+/// Builds the message for a call of a thread whose last call is pending.
 fn calls_message(
     alloc: Global,
     given: &Given<'_>,
@@ -106,7 +106,7 @@ fn calls_message(
     Message::of(alloc, sentence, &blanks, "")
 }
 
-/// The value that a call enqueues; of another event any.
+/// Returns the value that a call enqueues; any value for another event.
 fn value_of(call: &Placed) -> u64 {
     match call.event.what {
         What::CallEnq(value) => value,
@@ -114,7 +114,7 @@ fn value_of(call: &Placed) -> u64 {
     }
 }
 
-/// A value is enqueued that was enqueued before.
+/// Builds the message for a value that was enqueued before.
 fn values_message(
     alloc: Global,
     given: &Given<'_>,
@@ -133,7 +133,7 @@ fn values_message(
     Message::of(alloc, sentence, &blanks, DISTINCT)
 }
 
-/// An initial value is enqueued.
+/// Builds the message for an initial value that is enqueued.
 fn initial_message(
     alloc: Global,
     given: &Given<'_>,
@@ -151,7 +151,7 @@ fn initial_message(
     Message::of(alloc, sentence, &blanks, DISTINCT)
 }
 
-/// An initial value stands twice.
+/// Builds the message for an initial value that is listed twice.
 fn twice_message(
     alloc: Global,
     value: u64,
@@ -167,7 +167,7 @@ fn twice_message(
     Message::of(alloc, sentence, &blanks, DISTINCT)
 }
 
-/// An enqueue has no return.
+/// Builds the message for an enqueue without a return.
 fn pending_enqueue(
     alloc: Global,
     given: &Given<'_>,
@@ -187,7 +187,7 @@ fn pending_enqueue(
     Message::of(alloc, sentence, &blanks, OPEN_CALLS)
 }
 
-/// A dequeue has no return.
+/// Builds the message for a dequeue without a return.
 fn pending_dequeue(alloc: Global, given: &Given<'_>, call: &Placed) -> Result<Message, AllocError> {
     let ticket = Number(call.event.ticket);
     let thread = Number(u64::from(call.event.thread));
@@ -196,7 +196,7 @@ fn pending_dequeue(alloc: Global, given: &Given<'_>, call: &Placed) -> Result<Me
     Message::of(alloc, sentence, &blanks, OPEN_CALLS)
 }
 
-/// A call has no return.
+/// Builds the message for a call without a return.
 fn pending_message(alloc: Global, given: &Given<'_>, call: &Placed) -> Result<Message, AllocError> {
     match call.event.what {
         What::CallEnq(value) => pending_enqueue(alloc, given, call, value),
@@ -204,7 +204,7 @@ fn pending_message(alloc: Global, given: &Given<'_>, call: &Placed) -> Result<Me
     }
 }
 
-/// What a clash is.
+/// Builds the message for a clash.
 fn clash_message(alloc: Global, clash: &Clash, given: &Given<'_>) -> Result<Message, AllocError> {
     match clash {
         Clash::Tickets(before, later) => return order_message(alloc, given, before, later),
@@ -218,13 +218,13 @@ fn clash_message(alloc: Global, clash: &Clash, given: &Given<'_>) -> Result<Mess
     }
 }
 
-/// Whether a line is a call of the thread in this field.
+/// Returns whether a line is a call of the thread that this field names.
 fn is_call_of(line: &[u8], thread: &[u8]) -> bool {
     field_of(line, 1) == Some(thread)
         && field_of(line, 2).is_some_and(|what| what.starts_with(b"call-"))
 }
 
-/// Returns the number of the last line before this one that is a call of the same thread, where it is kept.
+/// Returns the number of the last line before this one that is a call of the same thread, if it is kept.
 fn call_before(given: &Given<'_>, number: u64) -> Option<u64> {
     let thread = field_of(line_of(given, number)?, 1)?;
     let mut found = None;
@@ -237,7 +237,7 @@ fn call_before(given: &Given<'_>, number: u64) -> Option<u64> {
     found
 }
 
-/// A thread returns from another kind of call than it made.
+/// Builds the message for a return from another kind of call than the thread made.
 fn return_message(alloc: Global, given: &Given<'_>, place: usize) -> Result<Message, AllocError> {
     let number = event_line(given, place);
     let line = line_of(given, number).unwrap_or(b"");
@@ -256,7 +256,7 @@ fn return_message(alloc: Global, given: &Given<'_>, place: usize) -> Result<Mess
     }
 }
 
-/// What is wrong with an event on its own.
+/// Builds the message for a fault that no other line explains.
 fn fault_message(
     alloc: Global,
     fault: HistoryFault,
@@ -281,7 +281,7 @@ fn fault_message(
     event_message(alloc, given, place, what)
 }
 
-/// What a history's fault is, with what clashes if that is known.
+/// Builds the message for a fault of a history, with the clash if that is known.
 pub(crate) fn history_message(
     alloc: Global,
     fault: HistoryFault,

@@ -1,18 +1,18 @@
-//! The lines of what was read, and what each should be.
+//! The lines of the input, and the part of the text that each should be.
 ghost use Rattle.std.specs.Prelude.{◌≡◌};
 
 use crate::complaints::{Given, Reads};
 use event_records::MAX_INITIAL;
 use text_lines::number_in;
 
-/// What a line of the input should be.
+/// The part of a text that a line should be.
 #[derive(Clone, Copy)]
 pub(crate) enum Part {
     /// The first line of a history or a schedule.
     Header,
-    /// How many values the queue holds first.
+    /// The number of initial values.
     InitialCount,
-    /// One of these values.
+    /// An initial value.
     InitialValue,
     /// An event of a history.
     Event,
@@ -24,13 +24,13 @@ pub(crate) enum Part {
     Answer,
     /// A later line of a verdict.
     Operation,
-    /// How many threads a schedule has, and how large their rings are.
+    /// The number of threads of a schedule, and the capacity of their rings.
     Setting,
     /// A step of a schedule.
     Step,
 }
 
-/// The number of the first line, from 1, of which this is so.
+/// Returns the number, from 1, of the first line that passes the test.
 pub(crate) fn first_line<F: Fn(&[u8]) -> bool>(front: &[u8], is_it: F) -> Option<u64>
     requires { F.IsAlwaysCallable is_it }
 {
@@ -42,7 +42,7 @@ pub(crate) fn first_line<F: Fn(&[u8]) -> bool>(front: &[u8], is_it: F) -> Option
     None
 }
 
-/// A line by its number from 1, where it is kept; the last one as far as it was read.
+/// Returns a line by its number from 1, if it is kept; the last one as far as it was read.
 pub(crate) fn line_of<'a>(given: &Given<'a>, number: u64) -> Option<&'a [u8]> {
     let place = number.checked_sub(1)? as usize;
     let mut lines = given.front.split(|byte| *byte == b'\n');
@@ -53,17 +53,17 @@ pub(crate) fn line_of<'a>(given: &Given<'a>, number: u64) -> Option<&'a [u8]> {
     Some(line)
 }
 
-/// A field of a line, by its place from 0.
+/// Returns a field of a line, by its place from 0.
 pub(crate) fn field_of(line: &[u8], place: usize) -> Option<&[u8]> {
     line.split(|byte| *byte == b' ').nth(place)
 }
 
-/// The number that a whole field is.
+/// Parses a whole field as a number.
 pub(crate) fn number_of(field: &[u8]) -> Option<u64> {
     number_in(0, u64::MAX, field).ok()
 }
 
-/// How many values the queue holds first.
+/// Returns the number of initial values.
 fn initial_count(front: &[u8]) -> u64 {
     let Some(rest) = front
         .strip_prefix(b"fifo-history 2\ninitial ")
@@ -78,7 +78,7 @@ fn initial_count(front: &[u8]) -> u64 {
     }
 }
 
-/// How many lines stand before the first event, or before the first step.
+/// Returns the number of lines before the first event or step.
 pub(crate) fn lines_before(given: &Given<'_>) -> u64 {
     if given.reads == Reads::Schedule {
         return 2;
@@ -92,12 +92,12 @@ pub(crate) fn lines_before(given: &Given<'_>) -> u64 {
     }
 }
 
-/// The number of the last line of the history or the schedule, where it is kept.
+/// Returns the number of the last line of the history or schedule, if it is kept.
 pub(crate) fn end_line(given: &Given<'_>) -> Option<u64> {
     first_line(given.front, |line| line.starts_with(b"end "))
 }
 
-/// The number of the line that counts pending calls, where it is kept.
+/// Returns the number of the line that counts pending calls, if it is kept.
 pub(crate) fn open_line(given: &Given<'_>) -> Option<u64> {
     if !given.front.starts_with(b"fifo-pending ") {
         return None;
@@ -105,7 +105,7 @@ pub(crate) fn open_line(given: &Given<'_>) -> Option<u64> {
     first_line(given.front, |line| line.starts_with(b"open "))
 }
 
-/// The number of events or steps before the last line, which has this number.
+/// Returns the number of events or steps before the last line, which has this number.
 pub(crate) fn counted(given: &Given<'_>, end: u64) -> u64 {
     let others = u64::from(open_line(given).is_some());
     end.saturating_sub(1)
@@ -113,7 +113,7 @@ pub(crate) fn counted(given: &Given<'_>, end: u64) -> u64 {
         .saturating_sub(others)
 }
 
-/// Whether the last line counts what stands before it.
+/// Returns whether the last line counts the events or steps before it rightly.
 pub(crate) fn counts_events(given: &Given<'_>) -> bool {
     let Some(end) = end_line(given) else {
         return false;
@@ -122,7 +122,7 @@ pub(crate) fn counts_events(given: &Given<'_>) -> bool {
     field.and_then(number_of) == Some(counted(given, end))
 }
 
-/// What the line of this number, after those of the history's initial values, should be.
+/// Returns what the line of this number should be, which comes after the initial values.
 fn part_behind(given: &Given<'_>, number: u64) -> Part {
     let item = if given.reads == Reads::Schedule {
         Part::Step
@@ -140,7 +140,7 @@ fn part_behind(given: &Given<'_>, number: u64) -> Part {
     }
 }
 
-/// What the line of this number should be.
+/// Returns what the line of this number should be.
 pub(crate) fn part_of(given: &Given<'_>, number: u64) -> Part {
     if number == 1 {
         return Part::Header;

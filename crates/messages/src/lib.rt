@@ -1,7 +1,7 @@
-//! What standard error says of a fault: what is wrong, in a sentence, and what to do.
+//! Messages on standard error: a sentence says what is wrong, and another one what to do.
 //!
-//! A message is one or two lines, each of which begins with the program's name. Bytes of the input are shown in printable ASCII. So
-//! that a line of the input can be shown, a source keeps the front of what it gives.
+//! A message is one or two lines, each of which begins with the program's name. Bytes of the input are shown in
+//! printable ASCII. A source keeps the front of what it gives, so that a message can show a line of it.
 #![tactic(auto)]
 
 mod complaints;

@@ -1,20 +1,20 @@
-//! A message before it is written.
+//! Messages before they are written.
 use crate::quoting::push_shown;
 use std::alloc::{AllocError, Global};
 use std::fmt::Write;
 
-/// What fills a blank of a sentence.
+/// The filling of a blank in a sentence.
 #[derive(Clone, Copy)]
 pub(crate) enum Blank<'a> {
     /// Words.
     Words(&'a str),
     /// A number, in digits.
     Number(u64),
-    /// Bytes of the input, as a message shows them.
+    /// Bytes of the input, shown in printable ASCII.
     Shown(&'a [u8]),
 }
 
-/// What is said, and in a second line what to do; that is empty where nothing is to be added.
+/// A sentence that says what is wrong, and one that says what to do, which may be empty.
 #[derive(Drop)]
 pub(crate) struct Message {
     pub said: String,
@@ -26,7 +26,7 @@ fn push_number(text: &mut String, number: u64) -> Result<(), AllocError> {
     write!(text, "{number}").map_err(|_| AllocError)
 }
 
-/// Appends what fills a blank.
+/// Appends the filling of a blank.
 fn push_blank(text: &mut String, blank: &Blank<'_>) -> Result<(), AllocError> {
     match blank {
         Blank::Words(words) => text.push_str(words),
@@ -35,7 +35,7 @@ fn push_blank(text: &mut String, blank: &Blank<'_>) -> Result<(), AllocError> {
     }
 }
 
-/// A sentence, of which each `{}` is a blank, with its blanks filled in their order.
+/// Fills the blanks of a sentence in their order. Each `{}` is a blank.
 pub(crate) fn filled(
     alloc: Global,
     sentence: &str,
@@ -52,7 +52,7 @@ pub(crate) fn filled(
 }
 
 impl Message {
-    /// A sentence with its blanks filled, and what to do; that may be empty.
+    /// Builds a message of a sentence, the fillings of its blanks, and the advice, which may be empty.
     pub(crate) fn of(
         alloc: Global,
         sentence: &str,

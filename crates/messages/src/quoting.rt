@@ -1,13 +1,13 @@
-//! Bytes as a message shows them.
+//! Bytes in printable ASCII.
 ghost use Rattle.std.specs.Prelude.{◌≡◌, ◌≤◌, ◌<◌, ◌++◌, All, IfOk, OnOk, string_bytes};
 ghost use Rattle.messages.specs.Quoting.{IsPrintable, hex_digit, shown_byte};
 
 use std::alloc::{AllocError, Global};
 
-/// The most bytes of a line that a message shows.
+/// The maximum number of bytes of a line that a message shows.
 pub const MOST_QUOTED: usize = 60;
 
-/// The digit of a number below 16.
+/// Returns the hexadecimal digit of a number below 16.
 fn hex_digit(number: u8) -> char
     requires { number < 16 }
     ensures digit { result ≡ hex_digit number }
@@ -20,7 +20,7 @@ fn hex_digit(number: u8) -> char
     })
 }
 
-/// One more byte: itself where it is printable, else its escape.
+/// Appends a byte: itself if it is printable, else its escape.
 fn push_quoted(text: &mut String, byte: u8) -> Result<(), AllocError>
     ensures shown { OnOk result (string_bytes text.new ≡ string_bytes text.old ++ shown_byte byte) }
     ensures printable { All IsPrintable (string_bytes text.old) → OnOk result (All IsPrintable (string_bytes text.new)) }
@@ -37,7 +37,7 @@ fn push_quoted(text: &mut String, byte: u8) -> Result<(), AllocError>
     }
 }
 
-/// Appends the bytes in printable ASCII: what isn't printable is escaped.
+/// Appends bytes in printable ASCII, others escaped.
 fn push_printable(text: &mut String, bytes: &[u8]) -> Result<(), AllocError>
     ensures { All IsPrintable (string_bytes text.old) → OnOk result (All IsPrintable (string_bytes text.new)) }
 {
@@ -47,7 +47,7 @@ fn push_printable(text: &mut String, bytes: &[u8]) -> Result<(), AllocError>
     Ok(())
 }
 
-/// Appends the bytes in printable ASCII, at most 60 of them, followed by three dots if there are more.
+/// Appends at most 60 bytes in printable ASCII, followed by three dots if there are more.
 pub(crate) fn push_shown(text: &mut String, bytes: &[u8]) -> Result<(), AllocError>
     ensures { All IsPrintable (string_bytes text.old) → OnOk result (All IsPrintable (string_bytes text.new)) }
 {
@@ -59,7 +59,7 @@ pub(crate) fn push_shown(text: &mut String, bytes: &[u8]) -> Result<(), AllocErr
     Ok(())
 }
 
-/// The bytes in printable ASCII: what isn't printable is escaped.
+/// Returns bytes in printable ASCII, others escaped.
 pub(crate) fn printable(alloc: Global, bytes: &[u8]) -> Result<String, AllocError>
     ensures { IfOk result (λ text. All IsPrintable (string_bytes text)) }
 {
@@ -68,7 +68,7 @@ pub(crate) fn printable(alloc: Global, bytes: &[u8]) -> Result<String, AllocErro
     Ok(text)
 }
 
-/// The bytes in printable ASCII, at most 60 of them, followed by three dots if there are more.
+/// Returns at most 60 bytes in printable ASCII, followed by three dots if there are more.
 pub fn quoted(alloc: Global, bytes: &[u8]) -> Result<String, AllocError>
     ensures { IfOk result (λ text. All IsPrintable (string_bytes text)) }
 {

@@ -1,8 +1,8 @@
-//! The numbers of a line: their names, and the ranges in which they lie.
+//! The numbers of a line: their names and ranges.
 use crate::input::{Part, field_of, number_of};
 use event_records::{MAX_INITIAL, MAX_RING, MAX_THREAD, MAX_THREADS, MAX_TICKET, MIN_RING};
 
-/// A number that a line has to have.
+/// A number that a line must have.
 #[derive(Clone, Copy)]
 pub(crate) struct Ranged {
     /// Its name, as in docs/FORMATS.md.
@@ -11,7 +11,7 @@ pub(crate) struct Ranged {
     pub greatest: u64,
 }
 
-/// A number of this name from 0 to the greatest.
+/// Makes the range of a name from 0 to the greatest number.
 fn up_to(name: &'static str, greatest: u64) -> Option<Ranged> {
     Some(Ranged {
         name,
@@ -20,7 +20,7 @@ fn up_to(name: &'static str, greatest: u64) -> Option<Ranged> {
     })
 }
 
-/// The number at a place of an event.
+/// Returns the number at a place of an event's line.
 fn in_event(place: usize) -> Option<Ranged> {
     match place {
         0 => up_to("<ticket>", MAX_TICKET),
@@ -30,7 +30,7 @@ fn in_event(place: usize) -> Option<Ranged> {
     }
 }
 
-/// The number at a place of a verdict's line, of which this is the first word.
+/// Returns the number at a place of a verdict's line with this first word.
 fn in_operation(first: &[u8], place: usize) -> Option<Ranged> {
     match (first, place) {
         (b"init", 1) => up_to("<value>", u64::MAX),
@@ -43,7 +43,7 @@ fn in_operation(first: &[u8], place: usize) -> Option<Ranged> {
     }
 }
 
-/// The number at a place of a schedule's second line.
+/// Returns the number at a place of a schedule's second line.
 fn in_setting(place: usize) -> Option<Ranged> {
     match place {
         1 => Some(Ranged {
@@ -60,7 +60,7 @@ fn in_setting(place: usize) -> Option<Ranged> {
     }
 }
 
-/// The number at a place of a step, of which this is the first word.
+/// Returns the number at a place of a step's line with this first word.
 fn in_step(first: &[u8], place: usize) -> Option<Ranged> {
     match (first, place) {
         (_, 1) => up_to("<thread>", u64::from(MAX_THREAD)),
@@ -70,7 +70,7 @@ fn in_step(first: &[u8], place: usize) -> Option<Ranged> {
     }
 }
 
-/// The number at a place of a line, of which this is the first word.
+/// Returns the number at a place of a line with this first word.
 fn ranged_at(part: Part, first: &[u8], place: usize) -> Option<Ranged> {
     match (part, place) {
         (Part::InitialCount, 1) => up_to("<k>", MAX_INITIAL as u64),
@@ -84,7 +84,7 @@ fn ranged_at(part: Part, first: &[u8], place: usize) -> Option<Ranged> {
     }
 }
 
-/// Whether a number field has a fault: it is no number, or is out of its range.
+/// Returns whether a number field is no number, or out of its range.
 fn is_wrong(ranged: Ranged, field: &[u8]) -> bool {
     match number_of(field) {
         Some(number) => number < ranged.least || number > ranged.greatest,
@@ -92,7 +92,7 @@ fn is_wrong(ranged: Ranged, field: &[u8]) -> bool {
     }
 }
 
-/// The first number field of a line that has a fault.
+/// Returns the first number field of a line that has a fault.
 pub(crate) fn first_wrong(part: Part, line: &[u8]) -> Option<(Ranged, &[u8])> {
     let first = field_of(line, 0)?;
     for (place, field) in line.split(|byte| *byte == b' ').enumerate() {

@@ -1,4 +1,4 @@
-//! The one function from a fault to its message.
+//! The function from a fault to its message.
 ghost use Rattle.std.specs.Prelude.{◌≡◌, ◌++◌, IfOk, string_bytes};
 ghost use Rattle.messages.specs.Messages.{IsMessage, IsMessageLine};
 
@@ -13,16 +13,16 @@ use std::alloc::{AllocError, Global};
 use stress_run::RunFault;
 use strsim::levenshtein;
 
-/// The message that memory ran out, which takes none.
+/// The message that memory ran out. It takes no memory.
 pub const NO_MEMORY: &[u8] = b"fifobench: memory ran out\n";
 
-/// The message that an answer wasn't written whole.
+/// The message that the answer wasn't written whole.
 pub const NOT_WRITTEN: &[u8] = b"fifobench: standard output couldn't be written\n";
 
-/// How many edits lead from a word to one that may have been meant.
+/// The maximum edit distance from a word to one that may have been meant.
 const FEW_EDITS: usize = 2;
 
-/// The first of the names that few edits of this name lead to.
+/// Returns the first name within that edit distance.
 fn nearest<'a>(
     alloc: Global,
     name: &str,
@@ -36,7 +36,7 @@ fn nearest<'a>(
     Ok(None)
 }
 
-/// The names in a row.
+/// Joins the names by commas.
 fn listed(alloc: Global, names: &[&str]) -> Result<String, AllocError> {
     let mut text = String::from_str(alloc, "the queues are")?;
     for (place, name) in names.iter().enumerate() {
@@ -46,7 +46,7 @@ fn listed(alloc: Global, names: &[&str]) -> Result<String, AllocError> {
     Ok(text)
 }
 
-/// No queue has the name.
+/// Builds the message for a queue that there isn't.
 fn queue_message(alloc: Global, name: &str, names: &[&str]) -> Result<Message, AllocError> {
     let hint = listed(alloc, names)?;
     let shown = Shown(name.as_bytes());
@@ -59,7 +59,7 @@ fn queue_message(alloc: Global, name: &str, names: &[&str]) -> Result<Message, A
     }
 }
 
-/// A run gave no history.
+/// Builds the message for a run that gave no history.
 fn run_message(alloc: Global, fault: RunFault) -> Result<Message, AllocError> {
     match fault {
         RunFault::Memory => Message::of(alloc, "memory ran out", &[], ""),
@@ -85,7 +85,7 @@ fn run_message(alloc: Global, fault: RunFault) -> Result<Message, AllocError> {
     }
 }
 
-/// What stands in the input of a command.
+/// Names the input of a command.
 fn content(reads: Reads) -> &'static str {
     match reads {
         Reads::History => "a history",
@@ -96,7 +96,7 @@ fn content(reads: Reads) -> &'static str {
     }
 }
 
-/// A completion is beyond the limits of a history.
+/// Builds the message for a completion beyond the limits of a history.
 fn completion_message(alloc: Global) -> Result<Message, AllocError> {
     let blanks = [Number(MAX_EVENTS as u64), Number(MAX_TICKET)];
     let sentence =
@@ -104,7 +104,7 @@ fn completion_message(alloc: Global) -> Result<Message, AllocError> {
     Message::of(alloc, sentence, &blanks, "")
 }
 
-/// More operations than a run may have.
+/// Builds the message for more operations than a run may have.
 fn limit_message(alloc: Global, threads: u64, operations: u64) -> Result<Message, AllocError> {
     let blanks = [
         Number(threads),
@@ -116,14 +116,14 @@ fn limit_message(alloc: Global, threads: u64, operations: u64) -> Result<Message
     Message::of(alloc, sentence, &blanks, "")
 }
 
-/// A command that reads standard input has an operand.
+/// Builds the message for an operand of a command that reads standard input.
 fn file_message(alloc: Global, command: &str, reads: Reads) -> Result<Message, AllocError> {
     let blanks = [Words(content(reads)), Words(command)];
     let sentence = "{} is read from standard input: fifobench {} < FILE";
     Message::of(alloc, sentence, &blanks, "")
 }
 
-/// The history or the verdict is too large to be drawn.
+/// Builds the message for a history or verdict that is too large to be drawn.
 fn size_message(alloc: Global) -> Result<Message, AllocError> {
     Message::of(
         alloc,
@@ -142,7 +142,7 @@ fn orders_message(alloc: Global) -> Result<Message, AllocError> {
     )
 }
 
-/// The lines of a message, without the program's name.
+/// Builds the message for a complaint.
 fn message_of(alloc: Global, complaint: &Complaint<'_>) -> Result<Message, AllocError> {
     match complaint {
         Complaint::Text(fault, given) => text_message(alloc, *fault, given),
@@ -164,7 +164,7 @@ fn message_of(alloc: Global, complaint: &Complaint<'_>) -> Result<Message, Alloc
     }
 }
 
-/// A line of a message, which begins with the program's name.
+/// Builds a line of a message, which begins with the program's name.
 fn line_of(alloc: Global, said: &str) -> Result<String, AllocError>
     ensures { IfOk result (λ text. IsMessageLine (string_bytes text)) }
 {
@@ -172,7 +172,7 @@ fn line_of(alloc: Global, said: &str) -> Result<String, AllocError>
     format!(in alloc; "fifobench: {said}\n")
 }
 
-/// Two lines, one after the other.
+/// Joins two lines.
 fn joined(first: String, second: String) -> Result<String, AllocError>
     ensures { IfOk result (λ text. string_bytes text ≡ string_bytes first ++ string_bytes second) }
 {
@@ -181,7 +181,8 @@ fn joined(first: String, second: String) -> Result<String, AllocError>
     Ok(text)
 }
 
-/// What standard error says of a fault: what is wrong, and in a second line what to do, where there is something.
+/// Returns the text on standard error: a line that says what is wrong, and one that says what to do, if there is
+/// something.
 ///
 /// Takes time in proportion to the front of the input that is kept.
 pub fn sentence<'a>(alloc: Global, complaint: &Complaint<'a>) -> Result<String, AllocError>
@@ -196,7 +197,7 @@ pub fn sentence<'a>(alloc: Global, complaint: &Complaint<'a>) -> Result<String, 
     joined(said, hint)
 }
 
-/// What a command says that reads from a terminal.
+/// Returns the prompt of a command that reads from a terminal.
 pub fn greeting(alloc: Global, command: &str, reads: Reads) -> Result<String, AllocError>
     ensures { IfOk result (λ text. IsMessageLine (string_bytes text)) }
 {
@@ -206,7 +207,7 @@ pub fn greeting(alloc: Global, command: &str, reads: Reads) -> Result<String, Al
     line_of(alloc, &said)
 }
 
-/// What `stress` says that wrote this many events to a terminal.
+/// Returns the hint for a `stress` that wrote this many events to a terminal.
 pub fn keeping(alloc: Global, events: u64) -> Result<String, AllocError>
     ensures { IfOk result (λ text. IsMessageLine (string_bytes text)) }
 {

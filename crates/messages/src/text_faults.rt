@@ -1,4 +1,4 @@
-//! Messages about inputs that aren't the texts that they should be.
+//! Messages about inputs that aren't well-formed texts.
 use crate::complaints::{Given, Reads};
 use crate::ends::{counted_in, cut_message, trailing_message};
 use crate::input::{Part, counted, counts_events, end_line, line_of, open_line, part_of};
@@ -9,11 +9,11 @@ use event_records::MAX_EVENTS;
 use std::alloc::{AllocError, Global};
 use text_lines::{LONGEST_LINE, TextFault};
 
-/// What a line needs that ends as those of other systems.
+/// Advice for a line that ends as lines of other systems do.
 const CARRIAGE_RETURNS: &str =
     "a line ends with a line feed alone: tr -d '\\r' takes carriage returns away";
 
-/// The first line of the text.
+/// Returns the first line of the text.
 fn first_line_of(reads: Reads) -> &'static str {
     match reads {
         Reads::Schedule => "fifo-schedule 1",
@@ -22,7 +22,7 @@ fn first_line_of(reads: Reads) -> &'static str {
     }
 }
 
-/// What stands in a line of this part.
+/// Names the contents of a line of this part.
 fn form_of(part: Part, reads: Reads) -> &'static str {
     match part {
         Part::Header => first_line_of(reads),
@@ -39,7 +39,7 @@ fn form_of(part: Part, reads: Reads) -> &'static str {
     }
 }
 
-/// The number in a last line.
+/// Names the number in a last line.
 fn counted_form(reads: Reads) -> &'static str {
     match reads {
         Reads::Schedule => "<number of steps>",
@@ -47,7 +47,7 @@ fn counted_form(reads: Reads) -> &'static str {
     }
 }
 
-/// Which words a line of this part may have.
+/// Returns the words that a line of this part may have.
 fn words_of(part: Part) -> &'static str {
     match part {
         Part::Event =>
@@ -60,7 +60,7 @@ fn words_of(part: Part) -> &'static str {
     }
 }
 
-/// What is to be done about a line of this part.
+/// Returns the advice for a line of this part.
 fn hint_of(part: Part, line: &[u8]) -> &'static str {
     if line.ends_with(b"\r") {
         CARRIAGE_RETURNS
@@ -69,7 +69,7 @@ fn hint_of(part: Part, line: &[u8]) -> &'static str {
     }
 }
 
-/// What is to be done about a line that may end as those of other systems.
+/// Returns the advice for a line that may end as lines of other systems do.
 fn hint_at_end(line: &[u8]) -> &'static str {
     if line.ends_with(b"\r") {
         CARRIAGE_RETURNS
@@ -78,7 +78,7 @@ fn hint_at_end(line: &[u8]) -> &'static str {
     }
 }
 
-/// Formats of files by their first bytes, and what makes a text of them.
+/// File formats by their first bytes, with the command that makes a text of each.
 const FORMATS: [(&[u8], &str); 9] = [
     (
         b"\x1f\x8b",
@@ -115,7 +115,7 @@ const FORMATS: [(&[u8], &str); 9] = [
     (b"\x7fELF", "the input is a program"),
 ];
 
-/// Returns what to do about input of another format, told by its first bytes.
+/// Returns the advice for input of another format, which its first bytes show.
 fn format_hint(front: &[u8]) -> Option<&'static str> {
     for (first_bytes, hint) in FORMATS {
         if front.starts_with(first_bytes) {
@@ -125,7 +125,7 @@ fn format_hint(front: &[u8]) -> Option<&'static str> {
     None
 }
 
-/// Returns what to do about a verdict in place of a history.
+/// Returns the advice for a verdict in place of a history.
 fn verdict_hint(reads: Reads) -> &'static str {
     match reads {
         Reads::Drawable => {
@@ -135,7 +135,7 @@ fn verdict_hint(reads: Reads) -> &'static str {
     }
 }
 
-/// What is to be done about a first line.
+/// Returns the advice for a first line.
 fn header_hint(reads: Reads, line: &[u8]) -> &'static str {
     if let Some(hint) = format_hint(line) {
         hint
@@ -154,7 +154,7 @@ fn header_hint(reads: Reads, line: &[u8]) -> &'static str {
     }
 }
 
-/// The first line isn't that of the text.
+/// Builds the message for a wrong first line.
 fn header_message(alloc: Global, given: &Given<'_>) -> Result<Message, AllocError> {
     let line = line_of(given, 1).unwrap_or(b"");
     Message::of(
@@ -165,12 +165,12 @@ fn header_message(alloc: Global, given: &Given<'_>) -> Result<Message, AllocErro
     )
 }
 
-/// How many fields a line has.
+/// Counts the fields of a line.
 fn fields_of(line: &[u8]) -> u64 {
     line.split(|byte| *byte == b' ').count() as u64
 }
 
-/// The line has other words or another number of fields than this form.
+/// Builds the message for a line that has other words or another number of fields than this form.
 fn form_message<'a>(
     alloc: Global,
     number: u64,
@@ -192,13 +192,13 @@ fn form_message<'a>(
     }
 }
 
-/// A line is longer than lines may be.
+/// Builds the message for a line that is too long.
 fn long_message(alloc: Global, number: u64, line: &[u8]) -> Result<Message, AllocError> {
     let blanks = [Number(number), Number(LONGEST_LINE as u64), Shown(line)];
     Message::of(alloc, "line {} has more than {} bytes: '{}'", &blanks, "")
 }
 
-/// The line has other words or another number of fields.
+/// Builds the message for a line with wrong words or a wrong number of fields.
 fn line_message(alloc: Global, number: u64, given: &Given<'_>) -> Result<Message, AllocError> {
     let part = part_of(given, number);
     let form = form_of(part, given.reads);
@@ -212,7 +212,7 @@ fn line_message(alloc: Global, number: u64, given: &Given<'_>) -> Result<Message
     form_message(alloc, number, form, line, hint_of(part, line))
 }
 
-/// The name of the first number field that has a fault; where there is none, that of the number in a last line.
+/// Returns the name of the first number field that has a fault, or else of the number in a last line.
 fn wrong_name(part: Part, reads: Reads, line: &[u8]) -> &'static str {
     match first_wrong(part, line) {
         Some((ranged, _)) => ranged.name,
@@ -220,7 +220,7 @@ fn wrong_name(part: Part, reads: Reads, line: &[u8]) -> &'static str {
     }
 }
 
-/// A number field of the line isn't a number.
+/// Builds the message for a field that isn't a number.
 fn number_message(alloc: Global, number: u64, given: &Given<'_>) -> Result<Message, AllocError> {
     let Some(line) = line_of(given, number) else {
         let sentence = "line {}: a field that should be a number isn't";
@@ -235,7 +235,7 @@ fn number_message(alloc: Global, number: u64, given: &Given<'_>) -> Result<Messa
     )
 }
 
-/// A number field is out of its range.
+/// Builds the message for a number field that is out of its range.
 fn range_message(
     alloc: Global,
     number: u64,
@@ -253,7 +253,7 @@ fn range_message(
     Message::of(alloc, sentence, &blanks, "")
 }
 
-/// A number of the line is out of its range, or the line is one too many.
+/// Builds the message for a number out of its range, or for one line too many.
 fn limit_message(alloc: Global, number: u64, given: &Given<'_>) -> Result<Message, AllocError> {
     let line = line_of(given, number).unwrap_or(b"");
     match first_wrong(part_of(given, number), line) {
@@ -267,14 +267,14 @@ fn limit_message(alloc: Global, number: u64, given: &Given<'_>) -> Result<Messag
     }
 }
 
-/// The line that counts pending calls doesn't count them.
+/// Builds the message for a wrong count of pending calls.
 fn open_message(alloc: Global, number: u64, given: &Given<'_>) -> Result<Message, AllocError> {
     let line = line_of(given, number).unwrap_or(b"");
     let sentence = "line {}: '{}' doesn't count the calls without a return";
     Message::of(alloc, sentence, &[Number(number), Shown(line)], "")
 }
 
-/// A line that counts something counts something else.
+/// Builds the message for a wrong count.
 fn count_message(alloc: Global, given: &Given<'_>) -> Result<Message, AllocError> {
     match open_line(given) {
         Some(open) if counts_events(given) => open_message(alloc, open, given),
@@ -282,7 +282,7 @@ fn count_message(alloc: Global, given: &Given<'_>) -> Result<Message, AllocError
     }
 }
 
-/// The last line counts something else.
+/// Builds the message for a wrong count in the last line.
 fn end_message(alloc: Global, given: &Given<'_>) -> Result<Message, AllocError> {
     let things = Words(counted_in(given.reads));
     let Some(end) = end_line(given) else {
@@ -296,7 +296,7 @@ fn end_message(alloc: Global, given: &Given<'_>) -> Result<Message, AllocError> 
     Message::of(alloc, sentence, &blanks, "")
 }
 
-/// What a text's fault is.
+/// Builds the message for a fault of a text.
 pub(crate) fn text_message(
     alloc: Global,
     fault: TextFault,
