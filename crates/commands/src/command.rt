@@ -10,7 +10,6 @@ ghost use Rattle.commands.specs.Stressing.{Stresses};
 ghost use Rattle.clap.specs.Values.{kind_of};
 ghost use Rattle.text_lines.specs.Input.{OfInput, known_of};
 
-use crate::beside::{Ended, Terminals, greet, say_at_end, say_mistake};
 use crate::complete::complete;
 use crate::draw::draw;
 use crate::histories::{check, convert, stats, verify};
@@ -19,6 +18,7 @@ use crate::pipes::{Muted, Piped};
 use crate::print::{print_memory, print_outcome, print_text};
 use crate::shrink::shrink;
 use crate::sim::sim;
+use crate::stderr::{Ended, Terminals, greet, say_at_end, say_mistake};
 use crate::stress::{NamedQueue, stress};
 use clap::Error;
 use clap::error::ErrorKind;
@@ -34,10 +34,11 @@ use std::thread::Threads;
 
 /// Runs the command that the arguments name and returns the status.
 ///
-/// The first argument is the program's name. `stress` runs a queue of the shelf, the first of its name, and reads nothing; the
-/// other commands read their input whole. Everything is computed before the first byte is written, and the writer is flushed
-/// once, at the end. Then standard error says why, if the status is 2 or 3; what it takes of that changes nothing. Two commands
-/// wait: `check` for the threads of its searches, `stress` for these and for its workers, and so for the queue.
+/// The first argument is the program's name. `stress` runs the first queue of its name on the shelf, and reads nothing.
+/// The other commands read their input whole. Everything is computed before the first byte is written, and the writer
+/// is flushed once, at the end. Then standard error says why, if the status is 2 or 3. Whether that can be written
+/// doesn't matter. Two commands wait: `check` for the threads of its searches, `stress` for these and for its workers,
+/// and so for the queue.
 pub fn run_command<'a, R, T, S, W, E>(
     rt: &R,
     words: &'a [T],
@@ -55,32 +56,32 @@ where
     E: TextSink,
     requires fresh { W.has_refused writer.old ≡ false }
 
-    // Arguments that are a command which reads: whatever the source, there are bytes with their end, those that it is known to
-    // give, and the answer to them is printed; or that memory ran out for the arguments.
+    // The arguments are a command that reads: the answer to some input that the source may give is printed, the known one
+    // if the source is known; or that memory ran out for the arguments.
     ensures reads { (request : Request) → faults_in (map T.text words.entry.now) ≡ [] → request_in (map T.text words.entry.now) ≡ Some request
         → OfInput (S.ahead reader) (λ input. PrintsOneOf (is_quiet_in (map T.text words.entry.now)) (AnswersOrNoMemory (AnswersOf request) input)
         (W.contents writer.old) (W.contents writer.new) (W.has_refused writer.new) result) }
 
-    // Arguments that are `stress`: what a run on the shelf gives is printed.
+    // The arguments are `stress`: the answer of a run on the shelf is printed.
     ensures stresses { (settings : Settings) → faults_in (map T.text words.entry.now) ≡ [] → request_in (map T.text words.entry.now) ≡ Some (stress settings)
         → PrintsOneOf (is_quiet_in (map T.text words.entry.now))
         (AnswersOrNoMemory (Stresses (λ s. s.name.now) (λ s. may s.queue) (λ s. may_preload s.queue) shelf.now) settings)
         (W.contents writer.old) (W.contents writer.new) (W.has_refused writer.new) result }
 
-    // Other arguments are answered by a text about the use of the program.
+    // Other arguments: a text about the use of the program is printed.
     ensures usage { (faults_in (map T.text words.entry.now) ≢ [])
         → ExplainsUse (faults_in (map T.text words.entry.now)) (W.contents writer.old) (W.contents writer.new) (W.has_refused writer.new) result }
 
-    // Whatever the arguments: the writer is written to and then flushed, once; or it refuses, and is asked for nothing more.
+    // The writer is written to and then flushed once, or it refuses and is asked for nothing more.
     ensures asked { WritesAndFlushes W.transition (W.has_refused writer.new) writer.old writer.new }
 
-    // So where it refused nothing, it holds nothing back.
+    // So a writer that refused nothing holds nothing back.
     ensures passed_on { W.has_refused writer.new ≡ false → W.holds_back writer.new ≡ false }
 
-    // With the status 0 or 1, as with `YES`, `NO` and a help, nothing is written to standard error, unless a terminal is there.
+    // With status 0 or 1, as for `YES`, `NO` and a help, standard error gets nothing, unless a terminal is there.
     ensures silent { terminals.input ≡ false → terminals.output ≡ false → result ≤ 1 → errors.new ≡ errors.old }
 
-    // With the status 2 or 3 of a command a message is written there: one or two lines.
+    // With status 2 or 3 of a command it gets a message of one or two lines.
     ensures said { faults_in (map T.text words.entry.now) ≡ [] → terminals.input ≡ false → terminals.output ≡ false
         → E.has_refused errors.old ≡ false → 2 ≤ result
         → SaysMessage (E.contents errors.old) (E.contents errors.new) (E.has_refused errors.new) }
@@ -108,7 +109,7 @@ where
     status
 }
 
-/// What a run of the program leaves: its exit status, and the two streams that it wrote to.
+/// The end of a run of the program: its exit status, and the two streams that it wrote to.
 #[derive(Drop)]
 pub struct Exit<O, E> {
     pub status: u8,
@@ -116,9 +117,10 @@ pub struct Exit<O, E> {
     pub errors: E,
 }
 
-/// Runs the command over a reader and writers of std, as [`run_command`] does. The answer is that to the bytes of the reader, as far
-/// as std says them, or to a prefix of them if a read fails. If the reader of the output has left, nothing is written to standard
-/// error.
+/// Runs the command over a reader and writers of std, as [`run_command`] does.
+///
+/// The answer is that to the bytes of the reader, as far as std says them, or to a prefix of them if a read fails. If the
+/// reader of the output has left, standard error gets nothing.
 pub fn run_over<'a, R, T, I, O, E>(
     rt: &R,
     words: &'a [T],
@@ -140,21 +142,21 @@ where
         → OfInput (known_of (I.remaining input)) (λ read. Behind (λ new refused. PrintsOneOf (is_quiet_in (map T.text words.entry.now))
         (AnswersOrNoMemory (AnswersOf request) read) (O.contents output) new refused result.status) (O.contents result.output)) }
 
-    // What a run on the shelf gives is printed.
+    // The answer of a run on the shelf is printed.
     ensures stresses { (settings : Settings) → faults_in (map T.text words.entry.now) ≡ [] → request_in (map T.text words.entry.now) ≡ Some (stress settings)
         → Behind (λ new refused. PrintsOneOf (is_quiet_in (map T.text words.entry.now))
         (AnswersOrNoMemory (Stresses (λ s. s.name.now) (λ s. may s.queue) (λ s. may_preload s.queue) shelf.now) settings)
         (O.contents output) new refused result.status) (O.contents result.output) }
 
-    // Other arguments are answered by a text about the use of the program.
+    // Other arguments: a text about the use of the program is printed.
     ensures usage { (faults_in (map T.text words.entry.now) ≢ [])
         → Behind (λ new refused. ExplainsUse (faults_in (map T.text words.entry.now)) (O.contents output) new refused result.status)
         (O.contents result.output) }
 
-    // With the status 0 or 1 nothing is written to standard error, unless a terminal is there.
+    // With status 0 or 1 standard error gets nothing, unless a terminal is there.
     ensures silent { terminals.input ≡ false → terminals.output ≡ false → result.status ≤ 1 → result.errors ≡ errors }
 
-    // With the status 2 or 3 of a command a message is written there: one or two lines, or a prefix of them.
+    // With status 2 or 3 of a command it gets a message of one or two lines, or a prefix of one.
     ensures said { faults_in (map T.text words.entry.now) ≡ [] → terminals.input ≡ false → terminals.output ≡ false → 2 ≤ result.status
         → (refused : Bool) × SaysMessage (E.contents errors) (E.contents result.errors) refused }
 {
@@ -183,7 +185,7 @@ where
     }
 }
 
-/// What a command finds, in the input or on the shelf.
+/// Runs a command over its input or the shelf.
 fn outcome_of<'a, R, S>(rt: &R, task: Task<'a>, reader: S, shelf: &[NamedQueue<'a>]) -> Outcome
 where
     R: AllocGlobal + Threads + Wait + Sync,
@@ -207,7 +209,7 @@ where
     }
 }
 
-/// Writes what clap says of the words.
+/// Writes the usage error, or the help that was asked for.
 fn explain<W: TextSink>(alloc: Global, error: &Error, writer: &mut W) -> u8
     requires fresh { W.has_refused writer.old ≡ false }
     ensures printed { Explains (kind_of error.now) (W.contents writer.old) (W.contents writer.new) (W.has_refused writer.new) result }

@@ -19,7 +19,7 @@ use history_text::{EventList, PendingText, TextFault, TextSource, Values, Versio
 use packed_events::PackedEvent;
 use std::alloc::{AllocError, Global};
 
-/// What `complete` finds in what the reader gives; with `takes_cut` in a text that is cut off too.
+/// Answers `complete` for the text of a reader. With `takes_cut` the text may be cut off.
 pub(crate) fn complete<S: TextSource + Drop>(alloc: Global, reader: S, takes_cut: bool) -> Outcome
     ensures found { OfInput (S.ahead reader) (λ input. AnswersFor (IsPendingOf takes_cut) (IsFaultOfPendingInput takes_cut) Completes input (answer_of result)) }
     ensures places { NamesPlaces result }
@@ -28,7 +28,7 @@ pub(crate) fn complete<S: TextSource + Drop>(alloc: Global, reader: S, takes_cut
     completion_of(alloc, text)
 }
 
-/// What `complete` finds in a text.
+/// Answers `complete` for a text.
 fn completion_of(alloc: Global, text: PendingText) -> Outcome
     requires lines { HaveValueLines text.version text.initial × HasHistoryText text.events }
     ensures found { AnswersOrNoMemory Completes text (answer_of result) }
@@ -38,7 +38,7 @@ fn completion_of(alloc: Global, text: PendingText) -> Outcome
     Ok(Report::Completed(version, initial, EventList::from_vec(events)))
 }
 
-/// What the completion of a text says.
+/// Returns the version, the initial values and the events of the completion of a text.
 pub(crate) fn completed(
     alloc: Global,
     text: PendingText,
@@ -68,7 +68,7 @@ pub(crate) fn completed(
     Ok((version, initial, events))
 }
 
-/// Why nothing is found where a history has no completion.
+/// Converts the reason why a history has no completion.
 fn refusal_of(fault: CompletionFault) -> Fault
     ensures { result ≡ fault_of_completion fault }
 {
@@ -88,7 +88,7 @@ fn counts(open_calls: Option<usize>, pending: usize) -> bool
     }
 }
 
-/// The history of a completion.
+/// Returns the history of a completion.
 pub(crate) fn history_of_completion(
     alloc: Global,
     initial: Vec<u64>,

@@ -33,7 +33,7 @@ use std::alloc::{AllocError, Global};
 use svg_picture::{html_picture, svg_picture};
 use verdicts::{Claimed, claim};
 
-/// What `draw` finds in what the reader gives.
+/// Answers `draw` for the text of a reader.
 pub(crate) fn draw<S: TextSource + Drop>(alloc: Global, reader: S, options: DrawOptions) -> Outcome
     ensures found { OfInput (S.ahead reader) (λ input. AnswersFor IsDrawableOf IsFaultOfDrawableInput (Draws options) input (answer_of result)) }
     ensures places { NamesPlaces result }
@@ -45,7 +45,7 @@ pub(crate) fn draw<S: TextSource + Drop>(alloc: Global, reader: S, options: Draw
     }
 }
 
-/// The picture of the history that a text says, with a claim.
+/// Draws the history of a text with a claim.
 fn draw_claimed(
     alloc: Global,
     text: &PendingText,
@@ -62,7 +62,7 @@ fn draw_claimed(
     draw_claim(alloc, &history, claimed, options)
 }
 
-/// The picture of what a text says, with its verdict.
+/// Draws the history or the pending text with its verdict.
 fn draw_alone(alloc: Global, text: PendingText, options: DrawOptions) -> Outcome
     requires lines { HaveValueLines text.version text.initial × HasHistoryText text.events }
     ensures found { AnswersOrNoMemory (λ t. DrawsAlone options t t.open_calls) text (answer_of result) }
@@ -78,7 +78,7 @@ fn draw_alone(alloc: Global, text: PendingText, options: DrawOptions) -> Outcome
     }
 }
 
-/// The picture of the completion of what a text says, with its verdict.
+/// Draws the completion of a pending text with its verdict.
 fn draw_pending(alloc: Global, text: PendingText, options: DrawOptions) -> Outcome
     requires lines { HaveValueLines text.version text.initial × HasHistoryText text.events }
     ensures found { AnswersOrNoMemory (DrawsPending options) text (answer_of result) }
@@ -90,7 +90,7 @@ fn draw_pending(alloc: Global, text: PendingText, options: DrawOptions) -> Outco
     draw_whole(alloc, whole, Some(added_from), options)
 }
 
-/// The history, or without its empty dequeues if these promise nothing.
+/// Returns the history, without its empty dequeues if these promise nothing.
 fn drawn_part(alloc: Global, whole: History, is_weakly_empty: bool) -> Result<History, AllocError>
     ensures whole { is_weakly_empty ≡ false → IfOk result (λ part. part ≡ whole) }
     ensures selected { is_weakly_empty ≡ true → IfOk result (λ part. contents_of part ≡ without_empties (contents_of whole)) }
@@ -105,7 +105,7 @@ fn drawn_part(alloc: Global, whole: History, is_weakly_empty: bool) -> Result<Hi
     }
 }
 
-/// The picture of what is drawn of a history, with its verdict.
+/// Draws the part of a history that is judged, with its verdict.
 fn draw_whole(
     alloc: Global,
     whole: History,
@@ -120,7 +120,7 @@ fn draw_whole(
     draw_decided(alloc, &history, added_from, options)
 }
 
-/// The condition without what it says of empty dequeues.
+/// Returns the condition with empty dequeues that promise what they say.
 fn strict(condition: Condition) -> Condition
     ensures { result ≡ strict condition }
 {
@@ -130,7 +130,7 @@ fn strict(condition: Condition) -> Condition
     }
 }
 
-/// Refuses the linearizations of several producers.
+/// Refuses a claim with a linearization for each producer, which one picture can't show.
 fn check_one_order(claimed: &Claimed, is_local: bool) -> Result<(), Fault>
     ensures one { OnOk result (IsOneOrder is_local claimed.now) }
     ensures several { IfErr result (λ fault. (answer_of_fault fault ≡ refused_orders) × (¬ (IsOneOrder is_local claimed.now))) }
@@ -141,7 +141,7 @@ fn check_one_order(claimed: &Claimed, is_local: bool) -> Result<(), Fault>
     }
 }
 
-/// Recalls what holds of every history: it is complete, and has few enough initial values.
+/// Has the type's invariant at hand: a history is complete, and has few enough initial values.
 fn recall_complete(history: &History)
     ensures sound { IsSound history.now }
     ensures few { length history.now.initial ≤ MAX_INITIAL }
@@ -149,7 +149,7 @@ fn recall_complete(history: &History)
     let _ = history.initial();
 }
 
-/// The operations to be drawn, if these and the lines of the claim are few.
+/// Returns the operations to be drawn, if these and the lines of the claim are few.
 fn drawn_if_few(
     alloc: Global,
     history: &History,
@@ -172,7 +172,7 @@ fn drawn_if_few(
     Ok(drawn)
 }
 
-/// The picture of a history with the claim, if little is drawn and the claim is evidence.
+/// Draws a history with a claim, if few operations are drawn and the claim is evidence.
 fn draw_claim(alloc: Global, history: &History, claimed: &Claimed, options: DrawOptions) -> Outcome
     requires complete { IsSound history.now }
     ensures found { (version : Version)
@@ -186,7 +186,7 @@ fn draw_claim(alloc: Global, history: &History, claimed: &Claimed, options: Draw
     draw_evidence(alloc, history, claimed, drawn, None, options)
 }
 
-/// The picture of a history with its verdict, if little is drawn.
+/// Draws a history with its verdict, if few operations are drawn.
 fn draw_decided(
     alloc: Global,
     history: &History,
@@ -203,7 +203,7 @@ fn draw_decided(
     draw_evidence(alloc, history, &claimed, drawn, added_from, options)
 }
 
-/// The claim of the verdict on a history.
+/// Returns the claim of the verdict on a history.
 fn decided_claim(
     alloc: Global,
     history: &History,
@@ -215,7 +215,7 @@ fn decided_claim(
     claim(alloc, history, &verdict)
 }
 
-/// The picture of what is drawn of a history and a claim that is evidence in it.
+/// Draws these operations of a history, with a claim that is evidence in it.
 fn draw_evidence(
     alloc: Global,
     history: &History,
@@ -239,7 +239,7 @@ fn draw_evidence(
     Ok(Report::Drawn(picture))
 }
 
-/// The picture of a history's scene in this form.
+/// Draws a scene of a history in this form.
 fn picture_in(
     alloc: Global,
     history: &History,

@@ -1,4 +1,4 @@
-//! Faults, and the lines that tell them.
+//! The lines of faults.
 ghost use Rattle.std.specs.Prelude.{◌≡◌, ◌≤◌, ◌++◌, [], length};
 ghost use Rattle.text_lines.specs.Lines.{line};
 ghost use Rattle.text_lines.specs.Writing.{Writes};
@@ -11,7 +11,7 @@ use history_text::{TextFault, TextSink, WriteFault, write_piece};
 use text_lines::WriteBuffer;
 
 impl Fault {
-    /// Its name, as it is printed before its place.
+    /// Returns the name, which is printed before the place.
     pub fn name(self) -> &'static str
         ensures name { result.now ≡ name_of self }
         ensures short { length result.now ≤ 20 }
@@ -28,7 +28,7 @@ impl Fault {
         }
     }
 
-    /// The place, the line, the ticket or the thread that it names.
+    /// Returns the place, line, ticket or thread that the fault names.
     pub fn place(self) -> Option<u64>
         ensures { result ≡ place_in self }
     {
@@ -40,7 +40,7 @@ impl Fault {
         }
     }
 
-    /// Whether what the command was given is refused; else the command failed.
+    /// Returns whether the input or the arguments are refused; else the command failed.
     pub fn is_refusal(self) -> bool
         ensures line { answer_text (answer_of_fault self) ≡ line (beginning result ++ named (name_of self) (place_in self)) }
         ensures status { answer_status (answer_of_fault self) ≡ fault_status result }
@@ -58,7 +58,7 @@ impl Fault {
         }
     }
 
-    /// The status of a refusal, or that of a failure.
+    /// Returns the status: 2 of a refusal, 3 of a failure.
     pub fn status(self) -> u8
         ensures { result ≡ answer_status (answer_of_fault self) }
     {
@@ -66,7 +66,7 @@ impl Fault {
     }
 }
 
-/// The line of a fault.
+/// Appends the line of a fault.
 fn push_fault(fault: Fault, kept: &mut WriteBuffer)
     requires { kept.old ≡ [] }
     ensures { kept.new ≡ answer_text (answer_of_fault fault) }
@@ -85,8 +85,7 @@ fn push_fault(fault: Fault, kept: &mut WriteBuffer)
     kept.push(b"\n");
 }
 
-/// Writes the line of a fault: whether the input is refused or the command failed, the fault's name, and the place, the line,
-/// the ticket or the thread that it names.
+/// Writes the line of a fault: `REFUSED` or `FAULT`, its name, and the place, line, ticket or thread that it names.
 pub(crate) fn write_fault<W: TextSink>(fault: Fault, writer: &mut W) -> Result<(), WriteFault>
     ensures { Writes W.contents W.has_refused W.transition (answer_text (answer_of_fault fault)) writer.old writer.new result }
 {

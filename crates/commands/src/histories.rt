@@ -20,10 +20,10 @@ use std::alloc::Global;
 use std::thread::Threads;
 use verdicts::Claimed;
 
-/// Into how many pieces `check` and `stress` cut the search for a cover.
+/// The number of pieces of the search for a cover in `check` and `stress`.
 pub(crate) const PIECES: usize = 4;
 
-/// What `check` finds in what the reader gives.
+/// Answers `check` for the text of a reader.
 pub(crate) fn check<R, S>(rt: &R, alloc: Global, reader: S, condition: Condition) -> Outcome
 where
     R: Threads + Sync,
@@ -37,7 +37,7 @@ where
     Ok(Report::Judged(history, verdict))
 }
 
-/// What `convert` finds in what the reader gives.
+/// Answers `convert` for the text of a reader.
 pub(crate) fn convert<S: TextSource + Drop>(alloc: Global, reader: S) -> Outcome
     ensures found { OfInput (S.ahead reader) (λ input. AnswersFor IsHistoryOf IsFaultOfHistoryInput Converts input (answer_of result)) }
     ensures places { NamesPlaces result }
@@ -46,7 +46,7 @@ pub(crate) fn convert<S: TextSource + Drop>(alloc: Global, reader: S) -> Outcome
     Ok(Report::Converted(history))
 }
 
-/// What `stats` finds in what the reader gives: the statistics, or the dequeues that overtook values.
+/// Answers `stats` for the text of a reader: the statistics, or the dequeues that overtook values.
 pub(crate) fn stats<S: TextSource + Drop>(alloc: Global, reader: S, overtakes: bool) -> Outcome
     ensures found { OfInput (S.ahead reader) (λ input. AnswersFor IsHistoryOf IsFaultOfHistoryInput (Counts overtakes) input (answer_of result)) }
     ensures places { NamesPlaces result }
@@ -58,7 +58,7 @@ pub(crate) fn stats<S: TextSource + Drop>(alloc: Global, reader: S, overtakes: b
     count(alloc, &history)
 }
 
-/// The dequeues of the history that overtook values.
+/// Lists the dequeues that overtook values.
 fn list_overtakings(alloc: Global, history: &History) -> Outcome
     requires { IsSound history.now }
     ensures found { (version : Version) → AnswersOrNoMemory (Counts true) (said_in version history.now) (answer_of result) }
@@ -68,7 +68,7 @@ fn list_overtakings(alloc: Global, history: &History) -> Outcome
     Ok(Report::Overtaken(overtakings))
 }
 
-/// The statistics of the history.
+/// Counts the statistics of the history.
 fn count(alloc: Global, history: &History) -> Outcome
     requires { IsSound history.now }
     ensures found { (version : Version) → AnswersOrNoMemory (Counts false) (said_in version history.now) (answer_of result) }
@@ -78,7 +78,7 @@ fn count(alloc: Global, history: &History) -> Outcome
     Ok(Report::Counted(statistics))
 }
 
-/// What `verify` finds in what the reader gives.
+/// Answers `verify` for the texts of a reader.
 pub(crate) fn verify<S: TextSource + Drop>(
     alloc: Global,
     reader: S,
@@ -92,7 +92,7 @@ pub(crate) fn verify<S: TextSource + Drop>(
     verify_claim(alloc, &history, &claimed, condition)
 }
 
-/// Whether the claim is evidence in the history under the condition.
+/// Answers whether the claim is evidence in the history under the condition.
 fn verify_claim(
     alloc: Global,
     history: &History,

@@ -1,4 +1,4 @@
-//! What a command reads.
+//! The inputs of commands.
 ghost use Rattle.std.specs.Prelude.{◌≡◌, ◌≤◌, ℕ, List, length, vec_len, IfOk, IfErr, IfSome};
 ghost use Rattle.event_records.specs.declared.event.Event.{Event};
 ghost use Rattle.event_records.specs.declared.limits.TheConstants.{MAX_EVENTS, MAX_INITIAL};
@@ -29,7 +29,7 @@ use verdicts::Claimed;
 /// A history builder, and the version of the text that it was read from.
 pub(crate) type Gathered = (Version, HistoryBuilder);
 
-/// The one text of a history that the reader gives, of either version.
+/// Reads the one text of a history, of either version.
 fn gathered_of<S: TextSource + Drop>(alloc: Global, reader: S) -> Result<Gathered, TextFault>
     ensures text { IfOk result (λ read. (text : HistoryText) × HasText text × IsReadAs text read.0 read.1 × OfInput (S.ahead reader)
         (λ input. IsHistoryOf input text)) }
@@ -41,7 +41,7 @@ fn gathered_of<S: TextSource + Drop>(alloc: Global, reader: S) -> Result<Gathere
     Ok(gathered)
 }
 
-/// What the one text says that the reader gives, of a history whose calls may be pending; with `takes_cut` as far as it goes.
+/// Reads the one text of a history whose calls may be pending; with `takes_cut` as far as it goes.
 pub(crate) fn pending_of<S: TextSource + Drop>(
     alloc: Global,
     reader: S,
@@ -59,7 +59,7 @@ pub(crate) fn pending_of<S: TextSource + Drop>(
     Ok(text)
 }
 
-/// The text of a history, and what the verdict text after it claims of it.
+/// Reads the text of a history and the claim of the verdict text after it.
 pub(crate) fn claimed_of<S: TextSource + Drop>(
     alloc: Global,
     reader: S,
@@ -74,8 +74,8 @@ pub(crate) fn claimed_of<S: TextSource + Drop>(
     Ok((gathered, claimed))
 }
 
-/// The text of a history, and what the verdict text after it claims of it if anything follows; or a text that counts its
-/// pending calls, after which nothing may follow.
+/// Reads the text of a history, and the claim of the verdict text after it if anything follows; or a text that counts
+/// its pending calls, after which nothing may follow.
 pub(crate) fn drawable_of<S: TextSource + Drop>(
     alloc: Global,
     reader: S,
@@ -97,7 +97,7 @@ pub(crate) fn drawable_of<S: TextSource + Drop>(
     Ok((text, Some(claimed)))
 }
 
-/// The one history that the reader gives, and the version of its text.
+/// Reads the one history, and returns it with the version of its text.
 pub(crate) fn given_history<S: TextSource + Drop>(
     alloc: Global,
     reader: S,
@@ -112,7 +112,7 @@ pub(crate) fn given_history<S: TextSource + Drop>(
     history_of(gathered)
 }
 
-/// The builder that these values and events were added to.
+/// Returns a builder with these initial values and events.
 pub(crate) fn gathered(alloc: Global, initial: Vec<u64>, events: &[PackedEvent]) -> HistoryBuilder
     requires few_initial { vec_len initial ≤ MAX_INITIAL }
     requires few_events { length events.now ≤ MAX_EVENTS }
@@ -125,7 +125,7 @@ pub(crate) fn gathered(alloc: Global, initial: Vec<u64>, events: &[PackedEvent])
     builder
 }
 
-/// The builder that the values and events of a text were added to, with its version.
+/// Returns a builder with the initial values and events of a text, and the version of the text.
 fn gathered_from(alloc: Global, text: &PendingText) -> Result<Gathered, AllocError>
     requires lines { HaveValueLines text.now.version text.now.initial × HasHistoryText text.now.events }
     ensures { IfOk result (λ read. IsReadAs (history_in text.now) read.0 read.1) }
@@ -137,7 +137,7 @@ fn gathered_from(alloc: Global, text: &PendingText) -> Result<Gathered, AllocErr
     ))
 }
 
-/// The history that a text says.
+/// Returns the history of a text.
 pub(crate) fn history_in(alloc: Global, text: &PendingText) -> Result<History, Fault>
     requires lines { HaveValueLines text.now.version text.now.initial × HasHistoryText text.now.events }
     ensures history { IfOk result (λ history. said_in text.now.version history ≡ history_in text.now) }
@@ -149,7 +149,7 @@ pub(crate) fn history_in(alloc: Global, text: &PendingText) -> Result<History, F
     Ok(history)
 }
 
-/// The history that was gathered from a text, and the version of this.
+/// Finishes the history of a text, and returns it with the version of the text.
 pub(crate) fn history_of(gathered: Gathered) -> Result<(Version, History), Fault>
     ensures history { (text : HistoryText) → HasText text → IsReadAs text gathered.0 gathered.1 → IfOk result (λ read. said_in read.0 read.1 ≡ text) }
     ensures complete { IfOk result (λ read. IsCompleteFrom read.1.initial read.1.events) }
@@ -165,7 +165,7 @@ pub(crate) fn history_of(gathered: Gathered) -> Result<(Version, History), Fault
     }
 }
 
-/// The fault, with the clash if that explains it.
+/// Adds the clash to a fault that it explains.
 fn incomplete(fault: HistoryFault, clash: Option<Clash>) -> Fault
     ensures fault { answer_of_fault result ≡ answer_of_history_fault fault }
     ensures clash { (initial : List ℕ) (events : List Event) → IfSome clash (IsClash initial events) → NamesClash initial events result }
@@ -177,7 +177,7 @@ fn incomplete(fault: HistoryFault, clash: Option<Clash>) -> Fault
     Fault::History(Incomplete { fault, clash })
 }
 
-/// The one schedule that the reader gives.
+/// Reads the one schedule.
 pub(crate) fn schedule_of<S: TextSource + Drop>(
     alloc: Global,
     reader: S,

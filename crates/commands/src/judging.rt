@@ -1,4 +1,4 @@
-//! Decisions and claims under the condition that a command was asked for.
+//! Decisions and claims under the condition of a command.
 ghost use Rattle.std.specs.Prelude.{◌≡◌, ◌↔◌, IfOk, IsTrue};
 ghost use Rattle.commands.specs.Conditions.{IsDecidedUnder, IsTrueUnder, emptiness_if};
 ghost use Rattle.history_merge.specs.Operations.{operations_of};
@@ -13,7 +13,7 @@ use parallel_finders::WitnessSearch;
 use std::alloc::{AllocError, Global};
 use verdicts::{Claimed, Verdict, decide_by, verify};
 
-/// The promise of empty dequeues under the condition.
+/// Returns what empty dequeues promise under the condition.
 pub(crate) fn emptiness_of(condition: Condition) -> Emptiness
     ensures { result ≡ emptiness_if condition.is_weakly_empty }
 {

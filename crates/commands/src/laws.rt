@@ -1,4 +1,4 @@
-//! What holds of the program's answers. These functions do nothing; the law is what each of them ensures.
+//! Laws of the program's answers. The functions do nothing: the law is the contract.
 ghost use Rattle.std.specs.Prelude.{◌≡◌, ◌≤◌, Bool, List};
 ghost use Rattle.history_merge.specs.declared.operation.Operation.{Operation};
 ghost use Rattle.event_records.specs.declared.event.Event.{Event};
@@ -29,8 +29,8 @@ pub fn honest_schedules_get_a_yes()
         → (events : List Event) × (order : List Operation) × (answer ≡ played (rejections setting schedule) events (Yes order)) }
 {}
 
-/// An input has one answer: two answers that the contract allows of a command that reads, on one input, are the same,
-/// or one of them says that memory ran out.
+/// An input has one answer: two answers to one input that the contract of a reading command allows are the same, or one
+/// of them says that memory ran out.
 pub fn one_answer()
     ensures check { (condition : Condition) → HasOneAnswer (check condition) }
     ensures shrink { (condition : Condition) → HasOneAnswer (shrink condition) }
@@ -42,7 +42,7 @@ pub fn one_answer()
     ensures sim { HasOneAnswer sim }
 {}
 
-/// No false alarm of threads: where no queue of the shelf has the name of a proved queue, what `stress` answers for that
+/// No false alarm of threads: if no queue of the shelf has the name of a proved queue, the answer of `stress` for that
 /// name shows no violation.
 pub fn runs_of_proved_queues_are_linearizable()
     ensures { (settings : Settings) (answer : Reply) → IsProvedName settings.queue → StressesUnshelved settings answer → ShowsNoViolation answer }

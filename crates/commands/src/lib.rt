@@ -1,7 +1,6 @@
-//! What the commands answer, over any reader, writer and shelf of queues: the program without its `main`.
+//! The commands over any reader, writer and shelf of queues: the program without its `main`.
 #![tactic(auto)]
 
-mod beside;
 mod command;
 mod complete;
 mod draw;
@@ -17,11 +16,11 @@ mod shelf;
 mod show;
 mod shrink;
 mod sim;
+mod stderr;
 mod stress;
 mod texts;
 mod words;
 
-pub use beside::Terminals;
 pub use command::{Exit, run_command, run_over};
 pub use laws::{
     completion_decides, conversion_keeps_answers, every_answer_is_evidence,
@@ -30,6 +29,7 @@ pub use laws::{
 pub use outcome::{Fault, Outcome, Report};
 pub use print::status_of;
 pub use shelf::{BuiltIn, built_ins};
+pub use stderr::Terminals;
 pub use stress::{NamedQueue, TRIES};
 pub use texts::{
     check_text, complete_text, draw_text, judge_gathered, shrink_text, stats_text, text_of_outcome,

@@ -1,4 +1,4 @@
-//! What a command found, or why it found nothing.
+//! Outcomes of commands.
 ghost use Rattle.std.specs.Prelude.{◌≡◌, None};
 ghost use Rattle.commands.specs.declared.outcome.Fault.TheVariants as made;
 
@@ -10,25 +10,25 @@ use std::alloc::AllocError;
 use stress_run::RunFault;
 use verdicts::Verdict;
 
-/// What a command found, to be printed; or why it found nothing.
+/// A report to be printed, or the fault because of which there is none.
 pub type Outcome = Result<Report, Fault>;
 
-/// What a command found.
+/// The findings of a command.
 #[derive(Drop)]
 pub enum Report {
-    /// A history, of which the verdict alone is to be shown.
+    /// A history and its verdict, of which the verdict alone is printed.
     Judged(History, Verdict),
-    /// A history to be shown in a version, with its verdict.
+    /// A history to be printed in a version, with its verdict.
     Shown(Version, History, Verdict),
-    /// The refused steps of a schedule, after which the machine isn't done.
+    /// The refused steps of a schedule after which the machine isn't done.
     LeftOpen(Rejections),
     /// The refused steps of a schedule, and the history that it collected, with its verdict.
     Played(Rejections, History, Verdict),
-    /// Whether a verdict is evidence.
+    /// True if the claimed verdict is evidence.
     Verified(bool),
-    /// A history on its own, to be shown in version 2.
+    /// A history on its own, to be printed in version 2.
     Converted(History),
-    /// The initial values and the events of a completion, to be shown in a version.
+    /// The initial values and events of a completion, to be printed in a version.
     Completed(Version, Values, EventList),
     /// The statistics of a history.
     Counted(Statistics),
@@ -38,17 +38,17 @@ pub enum Report {
     Drawn(Vec<u8>),
 }
 
-/// Why events are no complete history, and what clashes there, if that is known.
+/// The reason why events are no complete history, and the lines that clash, if these are known.
 #[derive(Clone, Copy)]
 pub struct Incomplete {
     pub fault: HistoryFault,
     pub clash: Option<Clash>,
 }
 
-/// Why a command found nothing: what it was given is refused, or it failed.
+/// The reason why a command found nothing: its input is refused, or it failed.
 #[derive(Clone, Copy)]
 pub enum Fault {
-    /// The input is not the text that it should be, or it wasn't read whole.
+    /// The input isn't a well-formed text, or it wasn't read whole.
     Text(TextFault),
     /// The events are no complete history, or there was no memory for one.
     History(Incomplete),

@@ -1,11 +1,11 @@
-//! Standard output whose reader may leave, and standard error, which says nothing then.
+//! Standard output whose reader may leave, and standard error, which is silent then.
 ghost use Rattle.std.specs.Prelude.{◌≡◌};
 
 use std::io;
 use std::io::{ErrorKind, Write};
 use std::sync::atomic::{AtomicBool, Ordering};
 
-/// A writer that notes if nobody reads what it writes any more.
+/// A writer that notes when its reader has left.
 #[derive(Drop)]
 pub(crate) struct Piped<'a, W> {
     pub inner: W,
@@ -51,7 +51,7 @@ impl<'a, W: Write> Write for Piped<'a, W> {
     }
 }
 
-/// A writer that refuses all once that was noted: whoever ends a pipe early needs no message.
+/// A writer that refuses all once a reader has left: whoever ends a pipe early needs no message.
 #[derive(Drop)]
 pub(crate) struct Muted<'a, W> {
     pub inner: W,

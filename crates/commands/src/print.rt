@@ -1,4 +1,4 @@
-//! What is written, and the status that goes with it.
+//! Printing of outcomes, and their statuses.
 ghost use Rattle.std.specs.Prelude.{◌≡◌, ℕ, List, Option, OnOk, OnErr, is_err, false};
 ghost use Rattle.std.specs.Io.KnownBytes.{Appends};
 ghost use Rattle.history_merge.specs.declared.operation.Operation.{Operation};
@@ -18,7 +18,7 @@ use history_text::{
 };
 use verdicts::Verdict;
 
-/// Writes what a command found, or why it found nothing.
+/// Writes an outcome.
 pub(crate) fn write_outcome<W: TextSink>(
     outcome: &Outcome,
     writer: &mut W,
@@ -63,7 +63,7 @@ fn status_of_verdict(verdict: &Verdict) -> u8
     }
 }
 
-/// The status that goes with what a command found, or with why it found nothing.
+/// Returns the status of an outcome.
 pub fn status_of(outcome: &Outcome) -> u8
     ensures { result ≡ answer_status (answer_of outcome.now) }
 {
@@ -79,7 +79,7 @@ pub fn status_of(outcome: &Outcome) -> u8
     }
 }
 
-// Flushes what was written, and answers this status if that went well too, else 3.
+// Flushes the writer, and returns this status if writing and flushing succeeded, else 3.
 fn flush_written<W: TextSink>(written: Result<(), WriteFault>, status: u8, writer: &mut W) -> u8
     requires { W.has_refused writer.old ≡ is_err written }
     ensures printed { (before : Option (List ℕ)) (text : List ℕ) → OnOk written (Appends before (W.contents writer.old) text)
@@ -98,7 +98,7 @@ fn flush_written<W: TextSink>(written: Result<(), WriteFault>, status: u8, write
     status
 }
 
-/// The first line of a verdict's text.
+/// Returns the first line of a verdict's text.
 fn head_of(verdict: &Verdict) -> &'static [u8]
     ensures { (initial : List ℕ) (operations : List Operation) → result.now ≡ verdict_head (claim_of initial operations verdict.now) }
 {
@@ -108,7 +108,7 @@ fn head_of(verdict: &Verdict) -> &'static [u8]
     }
 }
 
-/// Writes what a command found; of a verdict the first line alone, where it is asked for quietly.
+/// Writes an outcome; of a verdict the first line alone, if it was asked for quietly.
 fn write_said<W: TextSink>(
     outcome: &Outcome,
     is_quiet: bool,
@@ -133,7 +133,7 @@ fn write_said<W: TextSink>(
     }
 }
 
-/// Writes what a command found, quietly or whole, and flushes the writer; answers the status.
+/// Writes an outcome, quietly or whole, flushes the writer, and returns the status.
 pub(crate) fn print_outcome<W: TextSink>(outcome: &Outcome, is_quiet: bool, writer: &mut W) -> u8
     requires fresh { W.has_refused writer.old ≡ false }
     requires places { NamesPlaces outcome.now }
@@ -145,7 +145,7 @@ pub(crate) fn print_outcome<W: TextSink>(outcome: &Outcome, is_quiet: bool, writ
     flush_written(written, status_of(outcome), writer)
 }
 
-/// Writes that memory ran out, and flushes the writer; answers the status.
+/// Writes that memory ran out, flushes the writer, and returns the status.
 pub(crate) fn print_memory<W: TextSink>(writer: &mut W) -> u8
     requires fresh { W.has_refused writer.old ≡ false }
     ensures printed { PrintsAnswer (W.contents writer.old) (W.contents writer.new) (W.has_refused writer.new) result memory_fault }
@@ -155,7 +155,7 @@ pub(crate) fn print_memory<W: TextSink>(writer: &mut W) -> u8
     print_outcome(&Err(Fault::Memory), false, writer)
 }
 
-/// Writes a text and flushes the writer; answers the status.
+/// Writes a text, flushes the writer, and returns the status.
 pub(crate) fn print_text<W: TextSink>(text: &[u8], status: u8, writer: &mut W) -> u8
     requires fresh { W.has_refused writer.old ≡ false }
     ensures printed { Prints (W.contents writer.old) (W.contents writer.new) (W.has_refused writer.new) result text.now status }

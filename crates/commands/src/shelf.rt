@@ -1,4 +1,4 @@
-//! The built-in queues, each under its name.
+//! The built-in queues and their names.
 ghost use Rattle.std.specs.Prelude.{◌≡◌, IfOk, map};
 ghost use Rattle.commands.specs.Shelf.{name_of, built_in_names};
 
@@ -10,7 +10,7 @@ use queue_interface::{
 use std::alloc::{AllocError, Global};
 use std::sync::Wait;
 
-/// For how many values the queue `array` has room.
+/// The capacity of the queue `array`.
 const ARRAY_CAPACITY: usize = 1024;
 
 /// A built-in queue.
@@ -28,7 +28,7 @@ pub enum BuiltIn<R: Wait + Drop> {
 }
 
 impl<R: Wait + Drop> BuiltIn<R> {
-    /// The name by which `stress` finds it.
+    /// Returns the name by which `stress` finds the queue.
     pub fn name(&self) -> &'static str
         ensures { result.now ≡ name_of self.now }
     {
@@ -46,7 +46,7 @@ impl<R: Wait + Drop> BuiltIn<R> {
     }
 }
 
-/// What a queue answers, of whichever kind it is.
+/// Forwards a call to the queue, of whichever kind it is.
 macro_rules! on_queue {
     ($built_in:expr, $queue:ident => $answer:expr) => {
         match $built_in {
@@ -83,7 +83,7 @@ impl<R: Wait + Drop + Send + Sync> TestQueue for BuiltIn<R> {
     }
 }
 
-/// One queue of each kind, empty, in the order in which they stand on the program's shelf.
+/// Returns one empty queue of each kind, in the order of the program's shelf.
 pub fn built_ins<R: Wait + Drop + Copy>(rt: R, alloc: Global) -> Result<Vec<BuiltIn<R>>, AllocError>
     ensures { IfOk result (λ queues. map name_of queues.items ≡ built_in_names) }
 {

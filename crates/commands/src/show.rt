@@ -1,4 +1,4 @@
-//! How refused steps are printed.
+//! Lines of refused steps.
 ghost use Rattle.std.specs.Prelude.{◌≡◌, []};
 ghost use Rattle.text_lines.specs.Writing.{Writes};
 ghost use Rattle.commands.specs.Answers.{rejection_line, rejection_lines};
@@ -23,7 +23,7 @@ pub(crate) fn write_rejections<W: TextSink>(
     Ok(())
 }
 
-/// The line of a refused step.
+/// Appends the line of a refused step.
 fn push_rejection(rejection: Rejection, kept: &mut WriteBuffer)
     requires { kept.old ≡ [] }
     ensures { kept.new ≡ rejection_line rejection }

@@ -1,4 +1,4 @@
-//! `shrink`: what shows that a history doesn't meet a condition.
+//! `shrink`: a minimal part of a history that doesn't meet a condition.
 ghost use Rattle.std.specs.Prelude.{[], ◌≡◌, ◌≤◌, Bool, false, length, true};
 ghost use Rattle.commands.specs.Conditions.{emptiness_if};
 ghost use Rattle.commands.specs.Inputs.{IsFaultOfHistoryInput, IsHistoryOf};
@@ -28,7 +28,7 @@ use std::alloc::Global;
 use value_match::Violation;
 use verdicts::{Verdict, decide};
 
-/// What `shrink` finds in what the reader gives.
+/// Answers `shrink` for the text of a reader.
 pub(crate) fn shrink<S: TextSource + Drop>(
     alloc: Global,
     reader: S,
@@ -48,7 +48,7 @@ pub(crate) fn shrink<S: TextSource + Drop>(
     }
 }
 
-/// What `shrink` finds in a history, of a text of this version.
+/// Answers `shrink` for a history, of a text of this version.
 fn shrink_history(alloc: Global, version: Version, history: History) -> Outcome
     requires version { version ≡ One → history.initial ≡ [] }
     requires complete { IsCompleteFrom history.initial history.events }
@@ -61,7 +61,7 @@ fn shrink_history(alloc: Global, version: Version, history: History) -> Outcome
     }
 }
 
-/// What `shrink` finds in a history whose empty dequeues promise nothing.
+/// Answers `shrink` for a history whose empty dequeues promise nothing.
 fn shrink_weakly(alloc: Global, version: Version, history: History) -> Outcome
     requires version { version ≡ One → history.initial ≡ [] }
     requires complete { IsCompleteFrom history.initial history.events }
@@ -78,7 +78,7 @@ fn shrink_weakly(alloc: Global, version: Version, history: History) -> Outcome
     }
 }
 
-/// What `shrink` finds in a history in which each producer's values are judged alone.
+/// Answers `shrink` for a history in which each producer's values are judged alone.
 fn shrink_locally(
     alloc: Global,
     version: Version,
@@ -104,7 +104,7 @@ fn shrink_locally(
     }
 }
 
-/// What shows that a part of a history isn't linearizable, of a text of this version.
+/// Shrinks a part of a history that isn't linearizable, of a text of this version.
 fn shrink_part(alloc: Global, version: Version, part: &History) -> Outcome
     requires version { version ≡ One → part.now.initial ≡ [] }
     requires complete { IsCompleteFrom part.now.initial part.now.events }
@@ -118,7 +118,7 @@ fn shrink_part(alloc: Global, version: Version, part: &History) -> Outcome
     }
 }
 
-/// What shows the chosen violation of a history, of a text of this version.
+/// Shrinks a history to its chosen violation, of a text of this version.
 fn shrink_violation(
     alloc: Global,
     version: Version,

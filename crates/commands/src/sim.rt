@@ -1,4 +1,4 @@
-//! `sim`: a schedule of the recorder's steps, and the verdict on what it collects.
+//! `sim`: a schedule of the recorder's steps, and the verdict on the history that it collects.
 ghost use Rattle.std.specs.Prelude.{IfSome};
 ghost use Rattle.history_text.specs.Schedules.{IsSetting};
 ghost use Rattle.commands.specs.Inputs.{IsScheduleOf, IsFaultOfScheduleInput};
@@ -14,7 +14,7 @@ use simulation::{Ending, Simulation, simulate};
 use std::alloc::Global;
 use verdicts::decide;
 
-/// What `sim` finds in what the reader gives.
+/// Answers `sim` for the text of a reader.
 pub(crate) fn sim<S: TextSource + Drop>(alloc: Global, reader: S) -> Outcome
     ensures found { OfInput (S.ahead reader) (λ input. AnswersFor IsScheduleOf IsFaultOfScheduleInput Simulates input (answer_of result)) }
     ensures places { NamesPlaces result }
@@ -23,7 +23,7 @@ pub(crate) fn sim<S: TextSource + Drop>(alloc: Global, reader: S) -> Outcome
     play(alloc, &schedule)
 }
 
-/// What the steps of a schedule do.
+/// Plays the steps of a schedule.
 fn play(alloc: Global, schedule: &Schedule) -> Outcome
     requires { IsSetting schedule.now.threads schedule.now.ring }
     ensures found { AnswersOrNoMemory Simulates schedule.now (answer_of result) }

@@ -27,20 +27,20 @@ use std::thread::Threads;
 use stress_run::{ProvedQueue, Recorded, run_from, run_proved};
 use workloads::Plan;
 
-/// How often a push into a full ring is tried again before its worker gives up.
+/// The number of tries of a push into a full ring, after which its worker gives up.
 pub const TRIES: u32 = 1_000_000;
 
-/// A queue under the name by which `stress` finds it.
+/// A queue, and the name by which `stress` finds it.
 ///
-/// A run takes the queue as empty: a value that an earlier run left in it is dequeued as one that nobody enqueued.
+/// A run expects the queue to be empty: a value that an earlier run left in it is dequeued as one that nobody enqueued.
 #[derive(Drop)]
 pub struct NamedQueue<'a> {
     pub name: &'a str,
     pub queue: Box<dyn TestQueue>,
 }
 
-/// What `stress` finds: a run of the first queue of the name, if one has it, and the verdict on what was recorded. If
-/// none has it, the name may be that of a proved queue.
+/// Runs the first queue of the name, and judges the recorded history. If no queue of the shelf has the name, it may be
+/// that of a proved queue.
 pub fn stress<'a, R: Threads + Wait + Sync>(
     rt: &R,
     alloc: Global,
@@ -57,7 +57,7 @@ pub fn stress<'a, R: Threads + Wait + Sync>(
     stress_shelved(rt, alloc, shelved, options)
 }
 
-/// The first queue of this name.
+/// Returns the first queue of this name.
 fn find<'b, 'a>(shelf: &'b [NamedQueue<'a>], name: &str) -> Option<&'b NamedQueue<'a>>
     ensures found { IfSome result (λ shelved. IsFirstNamed (λ s. s.name.now) name.now shelf.now shelved.now) }
     ensures nowhere { IfNone result (All (λ s. s.name.now ≢ name.now) shelf.now) }
@@ -70,7 +70,7 @@ fn find<'b, 'a>(shelf: &'b [NamedQueue<'a>], name: &str) -> Option<&'b NamedQueu
     None
 }
 
-/// The proved queue of this name.
+/// Returns the proved queue of this name.
 fn proved_of(name: &str) -> Option<ProvedQueue>
     ensures named { IfSome result (λ _. IsProvedName name.now) }
     ensures other { IfNone result (¬ IsProvedName name.now) }
@@ -84,7 +84,7 @@ fn proved_of(name: &str) -> Option<ProvedQueue>
     None
 }
 
-/// What `stress` finds of a name that no queue of the shelf has: a run of a proved queue if it has that name.
+/// Runs the proved queue of a name that no queue of the shelf has, if there is one.
 fn stress_unshelved<'a, R: Threads + Wait + Sync>(
     rt: &R,
     alloc: Global,
@@ -100,7 +100,7 @@ fn stress_unshelved<'a, R: Threads + Wait + Sync>(
     }
 }
 
-/// What a run of this queue of the shelf gives.
+/// Runs a queue of the shelf, and judges the recorded history.
 fn stress_shelved<'a, R: Threads + Sync>(
     rt: &R,
     alloc: Global,
@@ -117,7 +117,7 @@ fn stress_shelved<'a, R: Threads + Sync>(
     run_plan(rt, alloc, &*shelved.queue, options)
 }
 
-/// A run of the seed's plan on this queue, and the verdict on what it recorded.
+/// Runs the seed's plan on a queue, and judges the recorded history.
 fn run_plan<'a, R: Threads + Sync>(
     rt: &R,
     alloc: Global,
@@ -134,7 +134,7 @@ fn run_plan<'a, R: Threads + Sync>(
     judge_run(rt, alloc, &recorded, options.initial, options.condition)
 }
 
-/// What a run of this proved queue gives.
+/// Runs a proved queue, and judges the recorded history.
 fn stress_proved<'a, R: Threads + Wait + Sync>(
     rt: &R,
     alloc: Global,
@@ -154,7 +154,7 @@ fn stress_proved<'a, R: Threads + Wait + Sync>(
     judge_run(rt, alloc, &recorded, options.initial, options.condition)
 }
 
-/// The seed's plan, and the values that the queue is to hold first.
+/// Returns the seed's plan and the initial values.
 fn plan_of<'a>(alloc: Global, options: &StressOptions<'a>) -> Result<(Plan, Vec<u64>), AllocError>
     requires ranges { IsWithinRanges (settings_of options.now) }
     requires few { options.now.threads * options.now.operations ≤ MAX_OPERATIONS }
@@ -172,7 +172,7 @@ fn plan_of<'a>(alloc: Global, options: &StressOptions<'a>) -> Result<(Plan, Vec<
     Ok((plan, initial))
 }
 
-/// The verdict on what was recorded of a run, whose queue held this many values first.
+/// Judges the recorded history of a run with so many initial values.
 fn judge_run<R: Threads + Sync>(
     rt: &R,
     alloc: Global,
@@ -193,7 +193,7 @@ fn judge_run<R: Threads + Sync>(
     Ok(Report::Shown(run_version(count), history, verdict))
 }
 
-/// Values for a queue, this many, which are names of initial values.
+/// Returns so many initial values, which have the names of initial values.
 fn first_values(alloc: Global, count: usize) -> Result<Vec<u64>, AllocError>
     requires { count ≤ MAX_STRESS_INITIAL }
     ensures { IfOk result (λ values. values.items ≡ first_values count) }
@@ -201,7 +201,7 @@ fn first_values(alloc: Global, count: usize) -> Result<Vec<u64>, AllocError>
     (LEAST_INITIAL_NAME..LEAST_INITIAL_NAME + count as u64).collect(alloc)
 }
 
-/// The version in which the history of a run is written.
+/// Returns the version in which the history of a run is written.
 fn run_version(count: usize) -> Version
     ensures { result ≡ run_version count }
 {

@@ -1,4 +1,4 @@
-//! What the commands find in a text in memory, all in the caller's thread: nothing is read, printed or started.
+//! The commands over a text in memory, in the caller's thread: nothing is read, printed or started.
 ghost use Rattle.std.specs.Prelude.{◌≡◌, IfOk};
 ghost use Rattle.history_merge.specs.Initial.{HistoryView};
 ghost use Rattle.std.specs.Prelude.{false};
@@ -23,7 +23,7 @@ use history_text::{MemorySource, Watched};
 use parallel_finders::OnePiece;
 use std::alloc::{AllocError, Global};
 
-/// What `check` finds in a text. Time and memory as of the command in one thread.
+/// Answers `check` for a text. Takes the time and memory of the command in one thread.
 pub fn check_text(alloc: Global, text: &[u8], condition: Condition) -> Outcome
     ensures found { AnswersOf (check condition) (input_of text.now) (answer_of result) }
     ensures places { NamesPlaces result }
@@ -33,7 +33,7 @@ pub fn check_text(alloc: Global, text: &[u8], condition: Condition) -> Outcome
     Ok(Report::Judged(history, verdict))
 }
 
-/// What `shrink` finds in a text.
+/// Answers `shrink` for a text.
 pub fn shrink_text(alloc: Global, text: &[u8], condition: Condition) -> Outcome
     ensures found { AnswersOf (shrink condition) (input_of text.now) (answer_of result) }
     ensures places { NamesPlaces result }
@@ -41,7 +41,7 @@ pub fn shrink_text(alloc: Global, text: &[u8], condition: Condition) -> Outcome
     shrink(alloc, MemorySource::new(text), condition)
 }
 
-/// What `verify` finds in a text.
+/// Answers `verify` for a text.
 pub fn verify_text(alloc: Global, text: &[u8], condition: Condition) -> Outcome
     ensures found { AnswersOf (verify condition) (input_of text.now) (answer_of result) }
     ensures places { NamesPlaces result }
@@ -49,7 +49,7 @@ pub fn verify_text(alloc: Global, text: &[u8], condition: Condition) -> Outcome
     verify(alloc, MemorySource::new(text), condition)
 }
 
-/// What `draw` finds in a text.
+/// Answers `draw` for a text.
 pub fn draw_text(alloc: Global, text: &[u8], options: DrawOptions) -> Outcome
     ensures found { AnswersOf (draw options) (input_of text.now) (answer_of result) }
     ensures places { NamesPlaces result }
@@ -57,7 +57,7 @@ pub fn draw_text(alloc: Global, text: &[u8], options: DrawOptions) -> Outcome
     draw(alloc, MemorySource::new(text), options)
 }
 
-/// What `complete` finds in a text; with `takes_cut` in one that is cut off too.
+/// Answers `complete` for a text. With `takes_cut` the text may be cut off.
 pub fn complete_text(alloc: Global, text: &[u8], takes_cut: bool) -> Outcome
     ensures found { AnswersOf (complete takes_cut) (input_of text.now) (answer_of result) }
     ensures places { NamesPlaces result }
@@ -65,7 +65,7 @@ pub fn complete_text(alloc: Global, text: &[u8], takes_cut: bool) -> Outcome
     complete(alloc, MemorySource::new(text), takes_cut)
 }
 
-/// What `stats` finds in a text.
+/// Answers `stats` for a text.
 pub fn stats_text(alloc: Global, text: &[u8]) -> Outcome
     ensures found { AnswersOf (stats false) (input_of text.now) (answer_of result) }
     ensures places { NamesPlaces result }
@@ -73,7 +73,7 @@ pub fn stats_text(alloc: Global, text: &[u8]) -> Outcome
     stats(alloc, MemorySource::new(text), false)
 }
 
-/// What `check` finds in the history that a history builder was given.
+/// Answers `check` for the history of a builder.
 pub fn judge_gathered(alloc: Global, builder: HistoryBuilder, condition: Condition) -> Outcome
     ensures found { (history : HistoryView) → IsGathered history builder → AnswersOrNoMemory (JudgesHistory condition) history (answer_of result) }
     ensures places { NamesPlaces result }
@@ -83,7 +83,7 @@ pub fn judge_gathered(alloc: Global, builder: HistoryBuilder, condition: Conditi
     Ok(Report::Judged(history, verdict))
 }
 
-/// The text that a command prints of what it found, or why it found nothing. `AllocError` comes only where a growth was refused.
+/// Returns the text that a command prints of an outcome. `AllocError` comes only if a growth was refused.
 pub fn text_of_outcome(alloc: Global, outcome: &Outcome) -> Result<Vec<u8>, AllocError>
     requires { NamesPlaces outcome.now }
     ensures { IfOk result (λ text. text.items ≡ answer_text (answer_of outcome.now)) }

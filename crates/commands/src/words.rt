@@ -1,11 +1,11 @@
-//! The program's arguments, and what is printed if a command can't begin.
+//! The program's arguments, and the faults because of which a command can't begin.
 ghost use Rattle.std.specs.Prelude.{◌≡◌, false};
 ghost use Rattle.commands.specs.Answers.{memory_fault};
 ghost use Rattle.commands.specs.Running.{Prints, PrintsAnswer, WritesAndFlushes, no_text};
 ghost use Rattle.commands.specs.declared.words.StartFault.TheVariants.{NoText, Memory};
 
-use crate::beside::{Terminals, tell};
 use crate::print::{print_memory, print_text};
+use crate::stderr::{Terminals, tell};
 use history_text::TextSink;
 use messages::{NO_MEMORY, NOT_WRITTEN};
 use std::env;
@@ -13,21 +13,21 @@ use std::env::Env;
 use std::io::ErrorKind;
 use thiserror::Error;
 
-/// What is printed if an argument isn't UTF-8.
+/// The line that is printed if an argument isn't UTF-8.
 const NO_TEXT: &[u8] = b"error: a word is not valid UTF-8\n";
 
-/// Why a command can't begin.
+/// The reason why a command can't begin.
 #[derive(Clone, Copy, Debug, PartialEq, Eq, Error)]
 pub enum StartFault {
-    /// Some word isn't UTF-8.
+    /// An argument isn't UTF-8.
     #[error("NoText")]
     NoText,
-    /// Memory ran out for the words or for the shelf.
+    /// Memory ran out for the arguments or for the shelf.
     #[error("Memory")]
     Memory,
 }
 
-/// The arguments, the program's name first.
+/// Returns the arguments, the program's name first.
 pub fn words_of<R: Env + AllocGlobal>(rt: &R) -> Result<Vec<String>, StartFault> {
     let words = match env::args(rt) {
         Ok(words) => words,
@@ -37,7 +37,7 @@ pub fn words_of<R: Env + AllocGlobal>(rt: &R) -> Result<Vec<String>, StartFault>
     words.collect(rt.alloc()).map_err(|_| StartFault::Memory)
 }
 
-/// Writes why a command can't begin, flushes the writer and returns the status; standard error says it too.
+/// Writes why a command can't begin to both streams, flushes the writer, and returns the status.
 pub fn print_start_fault<W: TextSink, E: TextSink>(
     fault: StartFault,
     writer: &mut W,

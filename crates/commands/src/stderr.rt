@@ -1,4 +1,4 @@
-//! What standard error says beside the answer.
+//! Standard error: prompts, messages and hints beside the answer.
 ghost use Rattle.std.specs.Prelude.{◌≡◌, ◌<◌, ◌≤◌, false, IfOk, string_bytes};
 ghost use Rattle.commands.specs.Running.{Says, SaysMessage};
 ghost use Rattle.messages.specs.Messages.{IsMessage};
@@ -14,7 +14,7 @@ use std::alloc::{AllocError, Global};
 use std::convert::AsStr;
 use std::iter::once;
 
-/// Above how many events a run that is written to a terminal is one to be kept in a file.
+/// The number of events above which a run that is written to a terminal gets a hint to keep it in a file.
 const MANY_EVENTS: usize = 2000;
 
 /// Which of the standard streams are terminals, and whether standard output and standard error are one file.
@@ -26,7 +26,7 @@ pub struct Terminals {
 }
 
 impl Terminals {
-    /// None of them is one, and they are two files.
+    /// No terminals, and two files.
     pub const NONE: Terminals = Terminals {
         input: false,
         output: false,
@@ -34,7 +34,7 @@ impl Terminals {
     };
 }
 
-/// Writes these bytes. If the writer refuses, nothing more is done.
+/// Writes bytes and flushes. If the writer refuses, nothing more is done.
 pub(crate) fn tell<E: TextSink>(bytes: &[u8], errors: &mut E)
     ensures { E.has_refused errors.old ≡ false
         → Says (E.contents errors.old) (E.contents errors.new) (E.has_refused errors.new) bytes.now }
@@ -44,7 +44,7 @@ pub(crate) fn tell<E: TextSink>(bytes: &[u8], errors: &mut E)
     }
 }
 
-/// Writes a message; or, if memory ran out for it, just that.
+/// Writes a message, or that memory ran out if there was none for the message.
 #[tactic(auto, using(crate::proofs::OneAnswer::memory_is_message))]
 fn tell_made<E: TextSink>(message: &Result<String, AllocError>, errors: &mut E)
     ensures { IfOk message.now (λ made. IsMessage (string_bytes made)) → E.has_refused errors.old ≡ false
@@ -56,7 +56,7 @@ fn tell_made<E: TextSink>(message: &Result<String, AllocError>, errors: &mut E)
     }
 }
 
-/// What a command of this name reads.
+/// Returns the kind of input that a command of this name reads.
 fn reads_of(command: &str) -> Option<Reads> {
     match command {
         "check" | "shrink" | "convert" | "stats" => Some(Reads::History),
@@ -68,7 +68,7 @@ fn reads_of(command: &str) -> Option<Reads> {
     }
 }
 
-/// The command's name.
+/// Returns the command's name.
 fn name_of(task: &Task<'_>) -> &'static str {
     match task {
         Task::Check(_) => "check",
@@ -83,7 +83,7 @@ fn name_of(task: &Task<'_>) -> &'static str {
     }
 }
 
-/// Says to one who sits at the input what is read there.
+/// Prints a prompt if standard input is a terminal.
 pub(crate) fn greet<E: TextSink>(
     alloc: Global,
     task: &Task<'_>,
@@ -101,7 +101,7 @@ pub(crate) fn greet<E: TextSink>(
     }
 }
 
-/// What a message says of a fault, if this much of the input is kept, on a shelf of queues with these names.
+/// Builds the complaint for a fault, with the input as far as it is kept, and the names of the queues.
 fn complaint_of<'a>(
     fault: Fault,
     task: &Task<'a>,
@@ -129,17 +129,17 @@ fn complaint_of<'a>(
     }
 }
 
-/// A command that ended, and what it had.
+/// A command that ended, with its outcome.
 #[derive(Drop)]
 pub(crate) struct Ended<'b, 'a, S> {
     pub order: &'b Order<'a>,
     pub outcome: &'b Outcome,
-    /// Its input, as far as that is kept.
+    /// The input, as far as it is kept.
     pub kept: &'b FrontKept<S>,
     pub shelf: &'b [NamedQueue<'a>],
 }
 
-/// The message about a command that ended with a status which is no verdict's.
+/// Builds the message for a command that ended with status 2 or 3.
 fn message_of<'b, 'a, S>(
     alloc: Global,
     ended: &Ended<'b, 'a, S>,
@@ -166,8 +166,8 @@ fn message_of<'b, 'a, S>(
     sentence(alloc, &complaint)
 }
 
-/// Says why a command that ended found nothing, or that its answer wasn't written, of a verdict nothing; and how a
-/// long history is kept, to one who sits at the output.
+/// Writes why a command found nothing, or that its answer wasn't written; nothing after a verdict. If standard output
+/// is a terminal, it also says how to keep a long run.
 pub(crate) fn say_at_end<'b, 'a, S, E: TextSink>(
     alloc: Global,
     ended: &Ended<'b, 'a, S>,
@@ -198,12 +198,12 @@ pub(crate) fn say_at_end<'b, 'a, S, E: TextSink>(
     }
 }
 
-/// Whether a word is an operand and no option. A `-` alone stands for standard input elsewhere.
+/// Returns whether a word is an operand and no option. A `-` alone is one: elsewhere it means standard input.
 fn is_operand(word: &str) -> bool {
     word == "-" || (!word.is_empty() && !word.starts_with('-'))
 }
 
-/// What a message says where a command was given the name of a file: how it is read.
+/// Returns the complaint about a file name after a command that reads standard input, if there is one.
 fn named_file<'a, T: AsStr>(words: &'a [T]) -> Option<Complaint<'a>> {
     let (_program, others) = words.split_first()?;
     let (command, operands) = others.split_first()?;
@@ -213,8 +213,7 @@ fn named_file<'a, T: AsStr>(words: &'a [T]) -> Option<Complaint<'a>> {
     is_named.then_some(Complaint::File { command, reads })
 }
 
-/// Says what is wrong with arguments that are no command, unless the terminal shows it as standard output; and how a
-/// file is read, if a command was given its name.
+/// Writes what is wrong with arguments that are no command.
 pub(crate) fn say_mistake<T: AsStr, E: TextSink>(
     alloc: Global,
     words: &[T],
@@ -240,7 +239,8 @@ pub(crate) fn say_mistake<T: AsStr, E: TextSink>(
     }
 }
 
-/// Says what is wrong with the words, unless whoever reads this reads it as standard output; and how a file is read.
+/// Writes the usage error, unless standard output already shows it on the same screen or file; and how a file is read,
+/// if its name was given.
 fn say_mistaken_words<T: AsStr, E: TextSink>(
     alloc: Global,
     words: &[T],
