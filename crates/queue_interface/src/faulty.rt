@@ -1,4 +1,4 @@
-// Queues that break the order now and then: each is another list under the one lock of `Locked`.
+// Queues with faults: each is another list under the one lock of `Locked`.
 ghost use Rattle.std.specs.Prelude.{◌≡◌, ◌+◌, ◌%◌, ◌^◌, ◌↔◌, Bool, IsTrue, List, Option, ℕ};
 ghost use Rattle.queue_interface.specs.Faulty.{CountedView};
 
@@ -6,7 +6,7 @@ use crate::locked::{Fifo, Locked, ValueList};
 use std::alloc::Global;
 use std::marker::{Model, PhantomData};
 
-// Counts from 1, and says which counts are fourth ones.
+// A counter of calls that finds each fourth one.
 #[derive(Drop)]
 struct Fourths {
     count: u64,
@@ -29,7 +29,7 @@ impl Fourths {
     }
 }
 
-/// Values of which the last comes out first. Contracts see them as a list.
+/// Values that come out last in, first out. Contracts see them as a list.
 #[derive(Drop)]
 pub struct Stack {
     values: Fifo,
@@ -74,10 +74,10 @@ impl ValueList for Stack {
     }
 }
 
-/// A queue that returns the last value first.
+/// A queue that dequeues the last value first.
 pub type Lifo<R> = Locked<Stack, R>;
 
-/// Values of which the first comes out first, and a count of calls.
+/// Values that come out first in, first out, and a count of calls.
 #[derive(Drop)]
 pub struct CountedList {
     fifo: Fifo,
@@ -104,7 +104,7 @@ impl CountedList {
     }
 }
 
-/// What goes wrong in each fourth call of a list that is a queue otherwise.
+/// The fault of a list: what goes wrong in each fourth call that it counts.
 pub trait Misstep: Send {
     ghost puts: { CountedView → ℕ → Bool → CountedView → Type 0 };
 
@@ -119,7 +119,7 @@ pub trait Misstep: Send {
         ensures taken { takes list.old result list.new };
 }
 
-/// Values of which the first comes out first, but for a misstep in each fourth call.
+/// Values that come out first in, first out, but for a fault in each fourth call.
 #[derive(Drop)]
 pub struct FaultyList<M: Misstep> {
     list: CountedList,
@@ -156,7 +156,7 @@ impl<M: Misstep> ValueList for FaultyList<M> {
         ensures last { PutsLast self.old.values value result self.new.values }
         ensures uncounted { self.new.count ≡ self.old.count }
     {
-        // This is none of the calls that are counted.
+        // This call isn't counted.
         self.list.fifo.put(value)
     }
 
@@ -167,7 +167,7 @@ impl<M: Misstep> ValueList for FaultyList<M> {
     }
 }
 
-/// Each 4th value that is found comes out and also stays in its place, and so comes out again.
+/// The fault of a list whose 4th, 8th, .. found value also stays in its place, and so comes out again.
 #[derive(Drop)]
 pub struct Doubles;
 
@@ -192,13 +192,13 @@ impl Misstep for Doubles {
     }
 }
 
-/// Values of which each 4th that a dequeue finds stays in its place.
+/// Values of which each 4th that a dequeue finds also stays in its place.
 pub type DoublingList = FaultyList<Doubles>;
 
-/// A queue that leaves each 4th value that a dequeue finds in its place.
+/// A queue that dequeues each 4th value twice.
 pub type Doubling<R> = Locked<DoublingList, R>;
 
-/// Each 4th dequeue returns none, without looking.
+/// The fault of a list whose 4th, 8th, .. dequeue returns none, without looking.
 #[derive(Drop)]
 pub struct Shies;
 
@@ -222,13 +222,13 @@ impl Misstep for Shies {
     }
 }
 
-/// Values with a dequeue that returns none at each 4th call.
+/// Values of which each 4th dequeue gets none.
 pub type ShyList = FaultyList<Shies>;
 
-/// A queue whose every 4th dequeue answers empty.
+/// A queue that answers each 4th dequeue with empty.
 pub type Shy<R> = Locked<ShyList, R>;
 
-/// Each 4th value is taken and lost.
+/// The fault of a list that takes its 4th, 8th, .. value and loses it.
 #[derive(Drop)]
 pub struct Loses;
 
@@ -248,16 +248,16 @@ impl Misstep for Loses {
     }
 }
 
-/// Values of which each 4th is taken and lost.
+/// Values of which each 4th is lost.
 pub type LosingList = FaultyList<Loses>;
 
-/// A queue that loses the value of each 4th enqueue, and answers that it took it.
+/// A queue that loses each 4th value, and answers that it took it.
 pub type Losing<R> = Locked<LosingList, R>;
 
 // The first value that an `InventingList` makes up.
 const FIRST_INVENTION: u64 = 1 << 63;
 
-/// Values with a dequeue that makes one up at each 4th call: 2^63 and the number of those made up before.
+/// Values of which each 4th dequeue gets one that is made up: 2^63 and the number of those made up before.
 #[derive(Drop)]
 pub struct InventingList {
     list: CountedList,
@@ -298,7 +298,7 @@ impl ValueList for InventingList {
         ensures last { PutsUncounted self.old.list value result self.new.list }
         ensures none { self.new.invented ≡ self.old.invented }
     {
-        // Nothing comes out, and nothing is made up.
+        // No value is made up here.
         self.put(value)
     }
 

@@ -48,7 +48,7 @@ impl GateQueue {
         }
     }
 
-    // Whether this many calls arrive before the turns are used up.
+    // Returns whether this many calls arrive before the turns are used up.
     fn sees_arrivals(&self, wanted: u64) -> bool {
         for _ in 0..self.turns {
             if self.arrivals.load(Ordering::SeqCst) >= wanted {

@@ -1,7 +1,7 @@
 //! Queues under test. Each consumes a question and returns it with an answer that it may give.
 //!
 //! To test a queue of your own, write an `impl` of `TestQueue`. The others are built in: four right ones,
-//! `LockedQueue`, `TwoLockQueue`, `ArrayBack` and `SegBack`; five that break the order now and then, `Lifo`,
+//! `LockedQueue`, `TwoLockQueue`, `ArrayBack` and `SegBack`; five with faults, `Lifo`,
 //! `Doubling`, `Inventing`, `Shy` and `Losing`; and two for tests of the recorder, `ScriptQueue` and `GateQueue`.
 #![tactic(auto)]
 
@@ -102,8 +102,8 @@ pub trait TestQueue: Drop + Send + Sync {
     /// Appends a value before a run, and returns whether it did: false if the queue is full or out of memory. Values are
     /// put in one after another, the front one first, each with its place from 0.
     ///
-    /// This is no operation: no question asks it, it is recorded nowhere, and it isn't one of the calls by whose
-    /// count some built-in queues break the order. It may wait as `enqueue` may. Whether the value is there
+    /// This is no operation: no question asks it, it is recorded nowhere, and built-in queues with faults don't count
+    /// it. It may wait as `enqueue` may. Whether the value is there
     /// afterwards is the queue's own affair, like all that it holds; a queue that holds nothing returns true.
     fn preload(&self, place: usize, value: u64) -> bool
         ensures allowed { may_preload self.now place value result };

@@ -9,7 +9,7 @@ use std::collections::VecDeque;
 use std::marker::Model;
 use std::sync::{Mutex, Wait};
 
-/// Values that one thread at a time puts in and takes out.
+/// A list of values that one thread at a time uses.
 pub trait ValueList: Drop + Send {
     /// Makes a list without values. It takes no memory.
     fn empty(alloc: Global) -> Self;
@@ -17,8 +17,7 @@ pub trait ValueList: Drop + Send {
     /// Adds a value, and returns whether it did: false if memory ran out.
     fn put(&mut self, value: u64) -> bool;
 
-    /// Appends a value before a run, and returns whether it did. This isn't one of the calls by whose count a list
-    /// breaks the order.
+    /// Appends a value before a run, and returns whether it did. Lists with faults don't count this call.
     fn preload(&mut self, value: u64) -> bool;
 
     /// Takes a value out, if it finds one.
@@ -64,7 +63,7 @@ impl<L: ValueList, R: Wait + Drop + Send + Sync> TestQueue for Locked<L, R> {
     }
 }
 
-/// Values in the order in which they were put in. Contracts see them as a list.
+/// Values that come out first in, first out. Contracts see them as a list.
 #[derive(Drop)]
 pub struct Fifo {
     values: VecDeque<u64>,
@@ -130,5 +129,5 @@ impl ValueList for Fifo {
     }
 }
 
-/// A queue that keeps the order, under one lock.
+/// A FIFO queue under one lock.
 pub type LockedQueue<R> = Locked<Fifo, R>;

@@ -3,7 +3,7 @@ use crate::TestQueue;
 use event_records::{AnsweredDeq, AnsweredEnq, AskDeq, AskEnq};
 use std::marker::Model;
 
-/// What a script answers to one operation.
+/// The answer of a script to one operation.
 #[derive(Clone, Copy, Debug, PartialEq, Eq)]
 pub enum Entry {
     /// The value of an enqueue is taken.

@@ -7,7 +7,7 @@ use std::collections::VecDeque;
 use std::mem;
 use std::sync::{Mutex, Wait};
 
-/// A queue that keeps the order, with one lock for the values that come in and one for those that go out.
+/// A FIFO queue with one lock for the values that come in and one for those that go out.
 ///
 /// A dequeue that finds no value to go out exchanges the two lists, under both locks.
 #[derive(Drop)]
