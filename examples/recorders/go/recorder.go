@@ -10,8 +10,8 @@
 //	}
 //
 // With the environment variable FIFOBENCH=/path/to/fifobench, `go test -count=1 -v` makes 100 short runs, each over a
-// fresh queue, judges each, and prints how many operations overlap. Without -count=1 Go repeats an earlier answer. A
-// loop of your own is recorded by Record. docs/RECORDING.md has the rules that this package keeps.
+// fresh queue, judges each, and prints how many operations overlap. Without -count=1, `go test ./...` repeats an
+// earlier answer. A loop of your own is recorded by Record. docs/RECORDING.md has the rules that this package keeps.
 package fifobench
 
 import (
