@@ -752,7 +752,7 @@ template <class Queue>
 History run(const Settings& settings, Queue& queue) {
     const auto work = [&](Thread& thread) {
         detail::Plan plan(settings, thread.number());
-        for (std::size_t n = 0; n < settings.operations; ++n) {
+        for (std::size_t n = 0, count = settings.operations_of_seed(); n < count; ++n) {
             if (plan.next_is_enqueue()) {
                 thread.enqueue([&](std::uint64_t value) { return queue.enqueue(value); });
             } else {

@@ -1,6 +1,6 @@
 // Package fifobench records what goroutines do with a FIFO queue, and searches for a run that no FIFO queue can have
-// made. Go 1.19 or later with its standard library: copy this file and judge.go into a folder fifobench of your module.
-// In a test:
+// made. Go 1.19 or later with its standard library: copy this file, judge.go and, on Linux, core_linux.go into a folder
+// fifobench of your module. In a test:
 //
 //	func TestMyQueue(t *testing.T) {
 //		answer := fifobench.Search(fifobench.Defaults(), func() fifobench.Queue { return NewMyQueue() })
@@ -9,8 +9,9 @@
 //		}
 //	}
 //
-// With the environment variable FIFOBENCH=/path/to/fifobench this makes 100 short runs, each over a fresh queue, and
-// judges each. A loop of your own is recorded by Record. docs/RECORDING.md has the rules that this package keeps.
+// With the environment variable FIFOBENCH=/path/to/fifobench, `go test -count=1 -v` makes 100 short runs, each over a
+// fresh queue, judges each, and prints how many operations overlap. Without -count=1, `go test ./...` repeats an
+// earlier answer. A loop of your own is recorded by Record. docs/RECORDING.md has the rules that this package keeps.
 package fifobench
 
 import (
