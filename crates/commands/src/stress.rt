@@ -172,7 +172,7 @@ fn plan_of<'a>(alloc: Global, options: &StressOptions<'a>) -> Result<(Plan, Vec<
     Ok((plan, initial))
 }
 
-/// Judges the recorded history of a run with so many initial values.
+/// Judges the recorded history of a run that began with `count` initial values.
 fn judge_run<R: Threads + Sync>(
     rt: &R,
     alloc: Global,
@@ -193,7 +193,7 @@ fn judge_run<R: Threads + Sync>(
     Ok(Report::Shown(run_version(count), history, verdict))
 }
 
-/// Returns so many initial values, which have the names of initial values.
+/// Returns `count` initial values.
 fn first_values(alloc: Global, count: usize) -> Result<Vec<u64>, AllocError>
     requires { count ≤ MAX_STRESS_INITIAL }
     ensures { IfOk result (λ values. values.items ≡ first_values count) }
