@@ -1,5 +1,5 @@
 -- Each step keeps the nodes that all passes share; and what stands beside the ticket word, of either form.
-use Rattle.std.proofs.Common.{◌≡◌, ◌≢◌, ℕ, zero, suc, ◌+◌, ◌<◌, ◌≤◌, Bool, true, false, List, [], ◌∷◌, ◌++◌, length, set, get_or, All, sum_by}
+use Rattle.std.proofs.Common.{◌≡◌, ◌≢◌, ℕ, suc, ◌+◌, ◌<◌, ◌≤◌, Bool, true, false, List, [], ◌∷◌, ◌++◌, length, set, get_or, sum_by}
 use Rattle.std.proofs.Common.{refl, sym, ap, ◌∙◌, subst, arith, length-set, get_or-set_same, get_or-set_other}
 use Rattle.std.specs.Prelude.{Option, Some, None, if◌then◌else◌}
 use mathlib.Core.Option.{some}
@@ -11,8 +11,6 @@ use Rattle.std.proofs.lemmas.List.Elements.{All-set, All-push, All-weaker}
 use Rattle.std.proofs.lemmas.List.Sums.{sum_by-cons, sum_by_push, get_or-le-sum_by}
 use Rattle.tickets.specs.declared.TheConstants.{NO_VALUE}
 use Rattle.tickets.specs.declared.account.Holding.{Holding}
-use Rattle.tickets.specs.declared.account.TailRight.{TailRight}
-use Rattle.tickets.specs.declared.account.HeadRight.{HeadRight}
 use Rattle.tickets.specs.declared.account.Setup.{Setup}
 use Rattle.tickets.specs.declared.account.Walk.{Walk}
 use Rattle.tickets.specs.declared.account.Aim.{Aim}
@@ -319,8 +317,11 @@ module _ (setup : Setup) (row : List ℕ) (log : List Note) (views : List Holdin
       → w.walk ≡ v.walk → AreBeside setup row log (set views i w)
   beside_same (inl n) i v w at same_log tail head walk = inl (n.0, nodes_same _ _ _ views n.1 i v w at same_log tail head)
   beside_same (inr n) i v w at same_log tail head walk =
-      inr (n.0, shared_step _ _ _ _ views n.1 i v w row log at same_log tail head (λ _ fits. fits)
-      (subst (FitsWalk row) (sym walk) (at_place (λ h. FitsWalk row h.walk) views i v at n.1.walks)) refl n.1.filled)
+      inr (
+        n.0,
+        shared_step _ _ _ _ views n.1 i v w row log at same_log tail head (λ _ fits. fits)
+            (subst (FitsWalk row) (sym walk) (at_place (λ h. FitsWalk row h.walk) views i v at n.1.walks)) refl n.1.filled,
+      )
 
   -- a pass whose rights are cut in two
   pub beside_split : AreBeside setup row log views → (i : ℕ) (v left right : Holding) → get_elem? views i ≡ some v → knowers left.log + knowers right.log ≡ knowers v.log
@@ -335,13 +336,16 @@ module _ (setup : Setup) (row : List ℕ) (log : List Note) (views : List Holdin
       let a' = sum_by_push rights (set views i left) right in
       let none = n.1.none in
       let P : Holding → Type 0 = λ h. FitsWalk row h.walk in
-      inr (n.0, record {
-        none = omega arith;
-        wide = n.1.wide;
-        walks = All-push P (set views i left) right (All-set P views i left (subst (FitsWalk row) (sym walk) (at_place P views i v at n.1.walks)) n.1.walks)
-            (subst (FitsWalk row) (sym rest) tt);
-        filled = n.1.filled;
-      })
+      inr (
+        n.0,
+        record {
+          none = omega arith;
+          wide = n.1.wide;
+          walks = All-push P (set views i left) right (All-set P views i left (subst (FitsWalk row) (sym walk) (at_place P views i v at n.1.walks)) n.1.walks)
+              (subst (FitsWalk row) (sym rest) tt);
+          filled = n.1.filled;
+        },
+      )
 
   -- a pass takes the rights of another, which is left with none
   pub beside_join : AreBeside setup row log views → (i j : ℕ) (v w m s : Holding) → get_elem? views i ≡ some v → get_elem? (set views i m) j ≡ some w → get_elem? views j ≡ some w
@@ -358,13 +362,16 @@ module _ (setup : Setup) (row : List ℕ) (log : List Note) (views : List Holdin
       let a' = counts-set rights (set views i m) j w s there in
       let none = n.1.none in
       let P : Holding → Type 0 = λ h. FitsWalk row h.walk in
-      inr (n.0, record {
-        none = omega arith;
-        wide = n.1.wide;
-        walks = All-set P (set views i m) j s (subst (FitsWalk row) (sym rest) tt)
-            (All-set P views i m (fit_walk (at_place P views i v at n.1.walks)) n.1.walks);
-        filled = n.1.filled;
-      })
+      inr (
+        n.0,
+        record {
+          none = omega arith;
+          wide = n.1.wide;
+          walks = All-set P (set views i m) j s (subst (FitsWalk row) (sym rest) tt)
+              (All-set P views i m (fit_walk (at_place P views i v at n.1.walks)) n.1.walks);
+          filled = n.1.filled;
+        },
+      )
 
   -- a note of who knows the log
   pub beside_known : AreBeside setup row log views → (i : ℕ) (v w : Holding) (log' : List Note) → get_elem? views i ≡ some v → knowers v.log ≡ 1 → knowers w.log ≡ 1

@@ -332,15 +332,17 @@ module _ (setup : Setup) where
   opens none unshared limit = subst (λ (w : Holding). KeepsAccount setup (opening (0 ∷ []) [] w)) (sym (first_plain setup none unshared))
       (let v = with_known setup in (
         (omega arith, opens_account v refl refl limit),
-        booked 0 (0 ∷ []) [] (v ∷ []) (opens_log v refl refl) (inl (unshared,
-            record {
-              at = 0;
-              one_tail = omega (arith, sum_by-cons tail_rights v []);
-              one_head = omega (arith, sum_by-cons head_rights v []);
-              tails = All-cons (λ (h : Holding). FitsTail [] h.tail) v [] tt (All-nil (λ (h : Holding). FitsTail [] h.tail));
-              heads = All-cons (λ (h : Holding). FitsHead 0 (initial_of setup) [] h.head) v [] tt (All-nil (λ (h : Holding). FitsHead 0 (initial_of setup) [] h.head));
-              laid = λ unknown. absurd (omega (arith, sum_by-cons knowers_of v []));
-            })),
+        booked 0 (0 ∷ []) [] (v ∷ []) (opens_log v refl refl) (inl (
+          unshared,
+          record {
+            at = 0;
+            one_tail = omega (arith, sum_by-cons tail_rights v []);
+            one_head = omega (arith, sum_by-cons head_rights v []);
+            tails = All-cons (λ (h : Holding). FitsTail [] h.tail) v [] tt (All-nil (λ (h : Holding). FitsTail [] h.tail));
+            heads = All-cons (λ (h : Holding). FitsHead 0 (initial_of setup) [] h.head) v [] tt (All-nil (λ (h : Holding). FitsHead 0 (initial_of setup) [] h.head));
+            laid = λ unknown. absurd (omega (arith, sum_by-cons knowers_of v []));
+          },
+        )),
       ))
 
   -- a table with nodes, whose first pass has both ends
@@ -360,22 +362,25 @@ module _ (setup : Setup) where
       let count : length initial ≡ setup.filled = ap length held ∙ length-take-le setup.filled (drop 2 words) (omega arith) in (
         (omega arith, subst (λ (n : ℕ). IsAccount setup.budget n (v ∷ [])) (sym zero_first) (opens_account v refl refl limit)),
         subst (λ (n : ℕ). AreBooked setup n words (v ∷ [])) (sym zero_first) (
-            booked 0 words [] (v ∷ []) (opens_log v refl tt) (inl (unshared, record {
-              at = 0;
-              one_tail = omega (arith, sum_by-cons tail_rights v []);
-              one_head = omega (arith, sum_by-cons head_rights v []);
-              tails = All-cons (λ (h : Holding). FitsTail row h.tail) v [] (first, omega arith, tt) (All-nil (λ (h : Holding). FitsTail row h.tail));
-              heads = All-cons (λ (h : Holding). FitsHead 0 initial row h.head) v [] (refl, refl, omega arith, λ e. absurd (false≢true e))
-                  (All-nil (λ (h : Holding). FitsHead 0 initial row h.head));
-              laid = λ _. record {
-                queue = initial;
-                legal = refl;
-                count = omega arith;
-                within = omega arith;
-                lies = λ i h.
-                    let place : 1 + (0 + i + 1) ≡ 2 + i = omega arith in
-                    get_or-drop 1 words (0 + i + 1) 0 ∙ ap (λ (k : ℕ). get_or words k 0) place ∙ sym (get_or-drop 2 words i 0)
-                    ∙ sym (get_or-take setup.filled (drop 2 words) i 0 (omega arith)) ∙ ap (λ (l : List ℕ). get_or l i 0) (sym held);
-              };
-            }))),
+            booked 0 words [] (v ∷ []) (opens_log v refl tt) (inl (
+              unshared,
+              record {
+                at = 0;
+                one_tail = omega (arith, sum_by-cons tail_rights v []);
+                one_head = omega (arith, sum_by-cons head_rights v []);
+                tails = All-cons (λ (h : Holding). FitsTail row h.tail) v [] (first, omega arith, tt) (All-nil (λ (h : Holding). FitsTail row h.tail));
+                heads = All-cons (λ (h : Holding). FitsHead 0 initial row h.head) v [] (refl, refl, omega arith, λ e. absurd (false≢true e))
+                    (All-nil (λ (h : Holding). FitsHead 0 initial row h.head));
+                laid = λ _. record {
+                  queue = initial;
+                  legal = refl;
+                  count = omega arith;
+                  within = omega arith;
+                  lies = λ i h.
+                      let place : 1 + (0 + i + 1) ≡ 2 + i = omega arith in
+                      get_or-drop 1 words (0 + i + 1) 0 ∙ ap (λ (k : ℕ). get_or words k 0) place ∙ sym (get_or-drop 2 words i 0)
+                      ∙ sym (get_or-take setup.filled (drop 2 words) i 0 (omega arith)) ∙ ap (λ (l : List ℕ). get_or l i 0) (sym held);
+                };
+              },
+            ))),
       ))

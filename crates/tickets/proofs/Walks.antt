@@ -1,12 +1,12 @@
 -- Each step of a call on nodes that all passes share keeps the account.
-use Rattle.std.proofs.Common.{◌≡◌, ◌≢◌, ℕ, suc, ◌+◌, ◌-◌, ◌<◌, ◌≤◌, Bool, true, false, List, [], ◌∷◌, ◌++◌, length, set, get_or, All, sum_by}
+use Rattle.std.proofs.Common.{◌≡◌, ◌≢◌, ℕ, suc, ◌+◌, ◌-◌, ◌<◌, ◌≤◌, Bool, true, false, List, [], ◌∷◌, ◌++◌, length, set, get_or, All}
 use Rattle.std.proofs.Common.{IsPermutation, eqb, refl, sym, ap, ◌∙◌, subst, arith, length-set, get_or-set_same, get_or-drop, length-append}
-use Rattle.std.specs.Prelude.{Option, Some, None, Contains, drop, IsSome, take, replicate, if◌then◌else◌}
+use Rattle.std.specs.Prelude.{Option, Some, Contains, drop, IsSome, take, replicate, if◌then◌else◌}
 use mathlib.Core.Option.{some}
 use mathlib.Core.Logic.{◌⊎◌, inl, inr}
 use lib.ListN.{get_elem?}
 use prog.Atomic.{either}
-use Rattle.std.proofs.lemmas.List.{length-drop, length-replicate, get_or-replicate, get_or_append_left, get_or-append-add, take_at}
+use Rattle.std.proofs.lemmas.List.{length-replicate, get_or-replicate, get_or_append_left, get_or-append-add, take_at}
 use Rattle.std.proofs.lemmas.List.Elements.{All-nil, All-cons, All-get_or}
 use Rattle.std.proofs.lemmas.List.Sums.{sum_by-cons}
 use Rattle.std.proofs.lemmas.Bool.{cases_lt, cases_eq}
@@ -17,20 +17,19 @@ use Rattle.tickets.specs.declared.TheConstants.{NO_VALUE, TICKET_LIMIT}
 use Rattle.tickets.specs.declared.account.Holding.{Holding}
 use Rattle.tickets.specs.declared.account.Setup.{Setup}
 use Rattle.tickets.specs.declared.account.Walk.{Walk}
-use Rattle.tickets.specs.declared.account.Aim.{Aim}
 use Rattle.tickets.specs.declared.account.Aim.TheVariants.{Put, Find, Read}
 use Rattle.tickets.specs.declared.note.Effect.TheVariants as effect
 use Rattle.tickets.specs.declared.note.Note.{Note}
-use Rattle.tickets.specs.Account.{whole_of, IsAccount}
-use Rattle.tickets.specs.Log.{IsLogged, LooksRise, note_at}
+use Rattle.tickets.specs.Account.{whole_of}
+use Rattle.tickets.specs.Log.{LooksRise, note_at}
 use Rattle.tickets.specs.Nodes.{queue_after}
-use Rattle.tickets.specs.Inner.Account.{AreBooked, AreBeside, KeepsAccount, holding, first_of, with_both, with_known, shared_initial, shared_room}
+use Rattle.tickets.specs.Inner.Account.{KeepsAccount, holding, first_of, with_both, with_known, shared_initial, shared_room}
 use Rattle.tickets.specs.Inner.Nodes.{told}
-use Rattle.tickets.specs.Inner.Shared.{walk_at, walking, at_rest, value_of, AreFullBefore, FitsWalk, AreFilled, rights, AreShared, shared_words}
+use Rattle.tickets.specs.Inner.Shared.{walk_at, walking, at_rest, value_of, FitsWalk, AreFilled, rights, AreShared, shared_words}
 use Rattle.tickets.specs.Inner.Shared.{BeginsToPut, BeginsToTake, LinksAt, DeclinesAt, PeeksAt, ClaimsAt}
 use Rattle.tickets.proofs.Logged.{logged_same, logged_more, logged_all, at_place}
 use Rattle.tickets.proofs.Steps.{kept, kept_else, kept_seen, account_same, contains_some, drawn_below, first_word, others_idle}
-use Rattle.tickets.proofs.Beside.{filled_count, full_within, empty_behind, room_left, filled_pushed, filled_hinted, filled_declined, filled_empty, filled_taken}
+use Rattle.tickets.proofs.Beside.{full_within, room_left, filled_pushed, filled_hinted, filled_declined, filled_empty, filled_taken}
 use Rattle.tickets.proofs.Beside.{walk_pushed, walk_taken, walk_hinted, full_more, shared_unknown, shared_step, shared_beside}
 use Rattle.tickets.proofs.Ends.{booked, opens_account, opens_log}
 
@@ -373,8 +372,11 @@ module _ (setup : Setup) (shared : setup.is_shared ≡ true) (slots id : ℕ) (m
             kept_seen setup s.words 2 (set s.views id u) r.0.0 (account_same setup n s.views id v u r.0.1 here refl refl)
                 (booked setup n s.words r.1.log (set s.views id u) (logged_same n n r.1.log s.views id v u (omega arith) r.1.logged here refl refl (λ e. e))
                 (inr (shared, nodes))),
-            (any_walk (λ k. ClaimsAt k v found u) v.walk (walk_at call room at (Read x)) has
-            (inr (ne, less_than at found (omega (arith, low, second)) ne, omega (arith, within, wide, second), refl)), refl),
+            (
+              any_walk (λ k. ClaimsAt k v found u) v.walk (walk_at call room at (Read x)) has
+                  (inr (ne, less_than at found (omega (arith, low, second)) ne, omega (arith, within, wide, second), refl)),
+              refl,
+            ),
           )
 
 -- ---- the end, and the beginning
@@ -437,13 +439,16 @@ opens_shared setup words initial room none shared filled are is fits values limi
     subst (λ (l : List ℕ). KeepsAccount setup (opening l [] (first_of setup))) (sym is)
     (subst (λ (w : Holding). KeepsAccount setup (opening (shared_words initial room) [] w)) (sym first) (
       (omega arith, opens_account setup v refl refl limit),
-      booked setup 0 (shared_words initial room) [] (v ∷ []) (opens_log setup v refl tt) (inr (shared, record {
-        none = omega (arith, sum_by-cons rights v []);
-        wide = omega (arith, long, length_all);
-        walks = All-cons (λ (h : Holding). FitsWalk (drop 1 (shared_words initial room)) h.walk) v [] tt
-            (All-nil (λ (h : Holding). FitsWalk (drop 1 (shared_words initial room)) h.walk));
-        filled = subst (λ (l : List ℕ). AreFilled l (drop 1 (shared_words initial room)) []) (sym held) (filled_first initial room fits values);
-      })),
+      booked setup 0 (shared_words initial room) [] (v ∷ []) (opens_log setup v refl tt) (inr (
+        shared,
+        record {
+          none = omega (arith, sum_by-cons rights v []);
+          wide = omega (arith, long, length_all);
+          walks = All-cons (λ (h : Holding). FitsWalk (drop 1 (shared_words initial room)) h.walk) v [] tt
+              (All-nil (λ (h : Holding). FitsWalk (drop 1 (shared_words initial room)) h.walk));
+          filled = subst (λ (l : List ℕ). AreFilled l (drop 1 (shared_words initial room)) []) (sym held) (filled_first initial room fits values);
+        },
+      )),
     ))
   where
     v : Holding

@@ -54,12 +54,7 @@ fn begin_take_by<M: Play<(), Holding>>(
 }
 
 // Puts the value into the first empty node and notes it, if a node is left.
-fn push_on(
-    tickets: &Tickets,
-    seat: &mut Seat<(), Holding>,
-    call: u64,
-    value: u64,
-) -> bool
+fn push_on(tickets: &Tickets, seat: &mut Seat<(), Holding>, call: u64, value: u64) -> bool
     requires key { (seat.old.table_id ≡ tickets.now.key) × (tickets.now.shared ≡ true) }
     requires drew { Contains seat.old.me.0.drawn call }
     ensures key { seat.new.table_id ≡ tickets.now.key }

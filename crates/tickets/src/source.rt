@@ -271,11 +271,7 @@ fn words_of(alloc: Global, initial: &[u64], room: usize) -> Result<Vec<u64>, All
 
 // Returns the words of a table whose nodes all passes share: the next ticket, two counts and the nodes. One node more than
 // there is room for stays empty, so that a call finds an empty node after all others were taken.
-fn shared_words_of(
-    alloc: Global,
-    initial: &[u64],
-    room: usize,
-) -> Result<Vec<u64>, AllocError>
+fn shared_words_of(alloc: Global, initial: &[u64], room: usize) -> Result<Vec<u64>, AllocError>
     requires fits { length initial.now ≤ room }
     requires room { room ≤ TICKET_LIMIT }
     ensures { IfOk result (λ words. words.items ≡ shared_words initial.now room) }

@@ -1,5 +1,5 @@
 -- What the steps keep on nodes that all passes share.
-use Rattle.std.specs.Prelude.{◌≡◌, ◌≢◌, ℕ, ◌+◌, ◌<◌, ◌≤◌, ◌-◌, ◌⊎◌, List, [], ◌∷◌, ◌++◌, length, All, sum_by, slice_index_or, replicate}
+use Rattle.std.specs.Prelude.{◌≡◌, ◌≢◌, ℕ, ◌+◌, ◌<◌, ◌≤◌, ◌-◌, ◌⊎◌, List, ◌∷◌, ◌++◌, length, All, sum_by, slice_index_or, replicate}
 use Rattle.std.specs.Prelude.{Bool, Option, Some, None, ⊤}
 use Rattle.tickets.specs.declared.TheConstants.{NO_VALUE}
 use Rattle.tickets.specs.declared.account.Holding.{Holding}

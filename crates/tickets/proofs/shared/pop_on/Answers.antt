@@ -1,9 +1,9 @@
-use Rattle.std.proofs.Common.{rules, sym, ap, ◌∙◌, ◌≡◌, ◌+◌, subst, arith, true, ◌<◌, refl}
-use Rattle.std.specs.Prelude.{Contains, Some, None}
-use Rattle.tickets.specs.declared.account.Aim.TheVariants.{Find, Read}
-use Rattle.tickets.specs.Inner.Shared.{walk_at, walking, at_rest}
+use Rattle.std.proofs.Common.{rules, sym, ap, ◌∙◌, ◌≡◌, subst, arith, true}
+use Rattle.std.specs.Prelude.{Contains}
+use Rattle.tickets.specs.declared.account.Aim.TheVariants.{Find}
+use Rattle.tickets.specs.Inner.Shared.{walk_at}
 use Rattle.tickets.specs.Views.{TicketsView}
-use Rattle.tickets.proofs.Walks.{peeks_at, claims_at, peeked_none, peeked_some, claimed_hit, claimed_miss}
+use Rattle.tickets.proofs.Walks.{peeks_at, claims_at, peeked_some}
 use Rattle.tickets.proofs.shared.pop_on.Goals as goal
 
 pub loop-table-init : goal.loop-table-init

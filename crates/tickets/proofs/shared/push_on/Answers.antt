@@ -1,9 +1,7 @@
-use Rattle.std.proofs.Common.{rules, sym, ap, ◌∙◌, ◌≡◌, ◌+◌, subst, arith, true, ◌<◌, refl}
-use Rattle.std.specs.Prelude.{Contains, Some, None}
+use Rattle.std.proofs.Common.{rules, sym, ap, ◌∙◌, ◌≡◌, subst, arith, true}
+use Rattle.std.specs.Prelude.{Contains, None}
 use Rattle.tickets.specs.declared.account.Aim.TheVariants.{Put}
-use Rattle.tickets.specs.declared.note.Effect.TheVariants as effect
-use Rattle.tickets.specs.Inner.Nodes.{told}
-use Rattle.tickets.specs.Inner.Shared.{walk_at, walking, at_rest}
+use Rattle.tickets.specs.Inner.Shared.{walk_at}
 use Rattle.tickets.specs.Views.{TicketsView}
 use Rattle.tickets.proofs.Walks.{links_at, helps_at, declines_at, linked_hit, linked_miss}
 use Rattle.tickets.proofs.shared.push_on.Goals as goal

@@ -1,4 +1,4 @@
-use Rattle.std.proofs.Common.{◌≡◌, ◌≤◌, ◌-◌, Some}
+use Rattle.std.proofs.Common.{◌≡◌, ◌≤◌, ◌-◌}
 use Rattle.tickets.specs.declared.account.Aim.TheVariants.{Put}
 use Rattle.tickets.specs.Inner.Shared.{BeginsToPut, walk_at, walking}
 use Rattle.tickets.proofs.shared.push_on.Given as goal

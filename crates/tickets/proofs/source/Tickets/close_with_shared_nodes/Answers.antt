@@ -3,6 +3,7 @@ use Rattle.std.specs.Prelude.{IsSome}
 use Rattle.tickets.specs.declared.note.Note.{Note}
 use Rattle.tickets.specs.Account.{whole_of}
 use Rattle.tickets.specs.Log.{LooksRise}
+use Rattle.tickets.specs.Inner.Account.{shared_initial}
 use Rattle.tickets.specs.Nodes.{queue_after}
 use Rattle.tickets.specs.Views.{TicketsView}
 use Rattle.tickets.proofs.Steps.{closes}
@@ -27,7 +28,7 @@ returns-clause-log c =
     let initial = ap (λ (t : TicketsView). t.initial) c.self.view_is in
     subst (λ (values : List ℕ). (log : List Note) × IsPermutation c.args.pass.noted log × LooksRise 0 log c.word-total.result × IsSome (queue_after values log))
     initial
-    (subst (λ (ns : List Note). (log : List Note) × IsPermutation ns log × LooksRise 0 log c.word-total.result × IsSome (queue_after _ log))
+    (subst (λ (ns : List Note). (log : List Note) × IsPermutation ns log × LooksRise 0 log c.word-total.result × IsSome (queue_after (shared_initial c.self.inside.table.shared.key) log))
     (ap (λ m. m.0.noted) c.into_parts-seat.ensures.seat)
     (settles_shared c.self.inside.table.shared.key shared _ c.into_parts-seat.result.0.me.0 _ _ c.word-total.result (whole c)
     c.close_with-closed.ensures.values.2 c.word-total.ensures))

@@ -1,4 +1,4 @@
-use Rattle.std.proofs.Common.{rules, refl, true, length, ap, sym, ◌∙◌, List, ℕ, get_or, arith}
+use Rattle.std.proofs.Common.{rules, refl, true, false, length, ap, sym, ◌∙◌, List, ℕ, get_or, arith}
 use Rattle.tickets.proofs.Ends.{opens_nodes, parts, parts_head}
 use Rattle.tickets.proofs.source.Tickets.with_nodes.Goals as goal
 
