@@ -468,7 +468,7 @@ opens_shared setup words initial room none shared filled are is fits values limi
     held = ap (λ (l : List ℕ). take setup.filled (drop 3 l)) (are ∙ is) ∙ ap (λ (k : ℕ). take k (drop 3 (shared_words initial room))) filled
         ∙ shared_held initial room
 
--- ---- what a step tells
+-- ---- which case a step was
 
 pub linked_hit : (w : Walk) (x : ℕ) (before : Holding) (found : ℕ) (after : Holding) → LinksAt w x before found after → found ≡ NO_VALUE
     → (look : ℕ) × (after ≡ walking (record w { at = w.at + 1 }) (told w.call (effect.Enq x) look before))

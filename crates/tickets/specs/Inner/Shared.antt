@@ -13,7 +13,7 @@ use Rattle.tickets.specs.Nodes.{queue_after, effect_of_put, effect_of_take}
 use Rattle.tickets.specs.Inner.Nodes.{holders, told}
 use Rattle.atomic_table.specs.Table.{Me}
 
--- a call with this ticket is at this node of so many
+-- a call with this ticket is at this node, and there is room for this many values
 abbrev pub walk_at : ℕ → ℕ → ℕ → Aim → Walk
 walk_at call room at aim = record { call = call; room = room; at = at; aim = aim }
 
@@ -60,7 +60,7 @@ pub record AreFilled (initial row : List ℕ) (log : List Note) : Type 0 where
   pub full : AreFullBefore row (slice_index_or row 1 0 + length queue)
   pub empty : (k : ℕ) → slice_index_or row 1 0 + length queue ≤ k → k + 2 < length row → slice_index_or row (k + 2) 0 ≡ NO_VALUE
 
--- the words at first: no ticket was drawn, so many values went in and none out, and the nodes with room for so many, and one more
+-- the words at first: no ticket was drawn, these values went in and none out; and the nodes, one more than there is room for
 abbrev pub shared_words : List ℕ → ℕ → List ℕ
 shared_words initial room = 0 ∷ length initial ∷ 0 ∷ (initial ++ replicate (room + 1 - length initial) NO_VALUE)
 
