@@ -26,6 +26,7 @@ complete -c fifobench -n '__fish_seen_subcommand_from draw' -l all -d 'Draw the 
 complete -c fifobench -n '__fish_seen_subcommand_from stress' -l queue -x -d 'Name of the queue' -a "
     proved\t'A list under one lock, proved to keep the order'
     proved-two-lock\t'Nodes with a lock for each end, proved to keep the order'
+    proved-lock-free\t'Nodes without a lock, proved to keep the order'
     locked\t'A list under one lock'
     two-lock\t'An inbox and an outbox, each under a lock of its own'
     array\t'ArrayQueue of crossbeam, with room for 1024 values'

@@ -393,9 +393,9 @@ before any worker starts, K of them, and the text of the history is of version
 2. Where the queue has no room for one of them, `FAULT Preload PLACE` says for
 which, counted from 0.
 
-Queues: proved and proved-two-lock keep the order, as is proved; locked,
-two-lock, array and seg are made to keep it; lifo, doubling, inventing, shy and
-losing break it now and then, on purpose.
+Queues: proved, proved-two-lock and proved-lock-free keep the order, as is
+proved; locked, two-lock, array and seg are made to keep it; lifo, doubling,
+inventing, shy and losing break it now and then, on purpose.
 
 Status:
   0  yes

@@ -86,9 +86,9 @@ StressesQueue may may_preload settings answer =
     Whether (settings.threads * settings.operations ≤ MAX_OPERATIONS) (RunsOrFails may may_preload settings answer)
     (answer ≡ refused_limit)
 
--- the name of a proved queue: a list under one lock, or nodes with a lock for each end
+-- the name of a proved queue: a list under one lock, nodes with a lock for each end, or nodes without a lock
 abbrev pub IsProvedName : List ℕ → Type 0
-IsProvedName name = (name ≡ codes "proved") ⊎ (name ≡ codes "proved-two-lock")
+IsProvedName name = (name ≡ codes "proved") ⊎ ((name ≡ codes "proved-two-lock") ⊎ (name ≡ codes "proved-lock-free"))
 
 -- of a name that no queue of the shelf has: the run of a proved queue shows no violation, and any other name is refused
 abbrev pub StressesUnshelved : Settings → Reply → Type 0

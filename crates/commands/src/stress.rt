@@ -81,6 +81,9 @@ fn proved_of(name: &str) -> Option<ProvedQueue>
     if name == "proved-two-lock" {
         return Some(ProvedQueue::TwoLocks);
     }
+    if name == "proved-lock-free" {
+        return Some(ProvedQueue::LockFree);
+    }
     None
 }
 

@@ -6,6 +6,7 @@
 mod Told
 mod Noting
 mod Accepting
+mod Proving
 mod Composed
 mod Once
 mod Zipped

@@ -1,9 +1,9 @@
 // What a worker asks: a queue under test, or one that notes its answers in the log of the run.
 ghost use Rattle.std.specs.Prelude.{◌≡◌, Contains, Bool, true};
-ghost use Rattle.atomic_table.specs.Seated.{TableId};
 ghost use Rattle.event_records.specs.Question.{Question};
 ghost use Rattle.event_records.specs.declared.kind.Answer.{Answer};
 ghost use Rattle.stress_run.specs.Noted.{NotesOne};
+ghost use Rattle.tickets.specs.Views.{TicketsView};
 
 use event_records::{AnsweredDeq, AnsweredEnq, AskDeq, AskEnq};
 use queue_interface::TestQueue;
@@ -16,13 +16,13 @@ pub(crate) trait Asked {
 
     ghost notes: { Self → Bool };
 
-    ghost of_word: { Self → TableId → Type 0 };
+    ghost of_word: { Self → TicketsView → Type 0 };
 
     // Answers a question to enqueue, which this pass drew the call ticket of.
     fn enqueue(&self, ask: AskEnq, pass: &mut Pass, tickets: &Tickets) -> AnsweredEnq
         requires key { pass.old.key ≡ tickets.now.key }
         requires drew { Contains pass.old.drawn ask.call }
-        requires word { of_word self.now tickets.now.key }
+        requires word { of_word self.now tickets.now }
         ensures question { result.question ≡ ask }
         ensures allowed { may self.now ask result.answer }
         ensures pass { pass.new ≡ record pass.old { noted = pass.new.noted } }
@@ -32,7 +32,7 @@ pub(crate) trait Asked {
     fn dequeue(&self, ask: AskDeq, pass: &mut Pass, tickets: &Tickets) -> AnsweredDeq
         requires key { pass.old.key ≡ tickets.now.key }
         requires drew { Contains pass.old.drawn ask.call }
-        requires word { of_word self.now tickets.now.key }
+        requires word { of_word self.now tickets.now }
         ensures question { result.question ≡ ask }
         ensures allowed { may self.now ask result.answer }
         ensures pass { pass.new ≡ record pass.old { noted = pass.new.noted } }

@@ -3,13 +3,14 @@
 //!
 //! A worker draws a ticket, asks the queue, draws another ticket, and pushes the call and the return into its ring. A
 //! collector drains the rings meanwhile. A run gives one list of events for each worker: all that it did, in order.
-//! `run_proved` makes its own queue, with one lock or two, whose recorded history is linearizable.
+//! `run_proved` makes its own queue, with one lock, two or none, whose recorded history is linearizable.
 #![tactic(auto)]
 
 mod asked;
 mod closing;
 mod crew;
 mod faults;
+mod lock_free;
 mod making;
 mod proved;
 mod proving;

@@ -135,7 +135,7 @@ impl<'r, J: OfRun + Send + Sync, R: Wait> Asked for Session<'r, J, R> {
 
     ghost notes = { λ _. true };
 
-    ghost of_word = { λ _ key. key ≡ J.word };
+    ghost of_word = { λ _ tickets. tickets.key ≡ J.word };
 
     fn enqueue(&self, ask: AskEnq, pass: &mut Pass, tickets: &Tickets) -> AnsweredEnq {
         self.desk.lock(self.rt).enqueue(ask, pass, tickets)

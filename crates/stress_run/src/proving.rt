@@ -10,11 +10,13 @@ ghost use Rattle.recorder_core.specs.Initial.{AreInitialNames};
 ghost use Rattle.recorder_core.specs.Replay.{AreRecorded, Replays};
 ghost use Rattle.stress_run.specs.Failed.{IsFaultOfRun};
 ghost use Rattle.stress_run.specs.Faults.{IsWithinLimits};
+ghost use Rattle.stress_run.specs.Inner.Proved.{IsProvedRun};
 ghost use Rattle.stress_run.specs.Operations.{IsRun};
 ghost use Rattle.stress_run.specs.declared.faults.RunFault.TheVariants.{Limit, Memory, Preload};
 ghost use Rattle.tickets.specs.Views.{fresh_pass};
 
 use crate::faults::RunFault;
+use crate::lock_free::LockFree;
 use crate::making::Sizes;
 use crate::proved::{OfRun, Session};
 use crate::runs::{Recorded, admitted, run_on};
@@ -37,6 +39,11 @@ pub enum ProvedQueue {
     /// value is written into its node and then counted, and a dequeue finds the queue empty if as many were counted as
     /// were taken.
     TwoLocks,
+    /// The queue without a lock of Michael and Scott (1996), on a row of nodes as that of `TwoLocks`. An enqueue exchanges
+    /// the mark of the first empty node for its value. A dequeue reads the first node that was not taken, and exchanges
+    /// the count of taken ones for the next. A call whose exchange fails goes on from what it found, so it waits for
+    /// nobody.
+    LockFree,
 }
 
 // Returns these values as a list.
@@ -67,12 +74,7 @@ fn run_named<J: OfRun + Send + Sync, R: Threads + Wait + Sync>(
     requires budget { named.0.budget ≡ 2 * sum_by length plan.now }
     requires pass { named.1 ≡ fresh_pass named.0.key (2 * sum_by length plan.now) }
     requires log { named.2 ≡ record { key = named.0.key; notes = [] } }
-    ensures recorded { IfOk result (λ r. IsRun AnswersInKind plan.now r.lists r.total) }
-    ensures initial { IfOk result (λ r. r.initial ≡ initial.items) }
-    ensures lists { IfOk result (λ r. AreRecorded r.lists) }
-    ensures replays { IfOk result (λ r. Replays sizes.ring initial.items r.lists) }
-    ensures fits { IfOk result (λ r. (merged : List Event) → IsMerged r.lists merged → IsCompleteFrom initial.items merged) }
-    ensures linearizable { IfOk result (λ r. (merged : List Event) → IsMerged r.lists merged → IsLinearizable initial.items (operations_of merged)) }
+    ensures proved { IfOk result (IsProvedRun plan.now sizes.ring initial.items) }
     ensures fault { IfErr result (IsFaultOfRun AnswersInKind [] plan.now sizes) }
 {
     let (tickets, pass, log) = named;
@@ -104,12 +106,7 @@ fn run_between<J: OfRun + Send + Sync, R: Threads + Wait + Sync>(
     requires pass { named.1 ≡ fresh_pass named.0.key (2 * sum_by length plan.now) }
     requires tail { named.2 ≡ named.0.key }
     requires head { named.3 ≡ record { key = named.0.key; initial = initial.items } }
-    ensures recorded { IfOk result (λ r. IsRun AnswersInKind plan.now r.lists r.total) }
-    ensures initial { IfOk result (λ r. r.initial ≡ initial.items) }
-    ensures lists { IfOk result (λ r. AreRecorded r.lists) }
-    ensures replays { IfOk result (λ r. Replays sizes.ring initial.items r.lists) }
-    ensures fits { IfOk result (λ r. (merged : List Event) → IsMerged r.lists merged → IsCompleteFrom initial.items merged) }
-    ensures linearizable { IfOk result (λ r. (merged : List Event) → IsMerged r.lists merged → IsLinearizable initial.items (operations_of merged)) }
+    ensures proved { IfOk result (IsProvedRun plan.now sizes.ring initial.items) }
     ensures fault { IfErr result (IsFaultOfRun AnswersInKind [] plan.now sizes) }
 {
     let (tickets, pass, tail, head) = named;
@@ -133,12 +130,7 @@ fn run_one_lock<R: Threads + Wait + Sync>(
 ) -> Result<Recorded, RunFault>
     requires sizes { IsWithinLimits sizes.ring sizes.tries }
     requires names { AreInitialNames initial.items }
-    ensures recorded { IfOk result (λ r. IsRun AnswersInKind plan.now r.lists r.total) }
-    ensures initial { IfOk result (λ r. r.initial ≡ initial.items) }
-    ensures lists { IfOk result (λ r. AreRecorded r.lists) }
-    ensures replays { IfOk result (λ r. Replays sizes.ring initial.items r.lists) }
-    ensures fits { IfOk result (λ r. (merged : List Event) → IsMerged r.lists merged → IsCompleteFrom initial.items merged) }
-    ensures linearizable { IfOk result (λ r. (merged : List Event) → IsMerged r.lists merged → IsLinearizable initial.items (operations_of merged)) }
+    ensures proved { IfOk result (IsProvedRun plan.now sizes.ring initial.items) }
     ensures fault { IfErr result (IsFaultOfRun AnswersInKind [] plan.now sizes) }
 {
     let named = Tickets::with_log(alloc, 2 * plan.operations())?;
@@ -155,18 +147,38 @@ fn run_two_locks<R: Threads + Wait + Sync>(
 ) -> Result<Recorded, RunFault>
     requires sizes { IsWithinLimits sizes.ring sizes.tries }
     requires names { AreInitialNames initial.items }
-    ensures recorded { IfOk result (λ r. IsRun AnswersInKind plan.now r.lists r.total) }
-    ensures initial { IfOk result (λ r. r.initial ≡ initial.items) }
-    ensures lists { IfOk result (λ r. AreRecorded r.lists) }
-    ensures replays { IfOk result (λ r. Replays sizes.ring initial.items r.lists) }
-    ensures fits { IfOk result (λ r. (merged : List Event) → IsMerged r.lists merged → IsCompleteFrom initial.items merged) }
-    ensures linearizable { IfOk result (λ r. (merged : List Event) → IsMerged r.lists merged → IsLinearizable initial.items (operations_of merged)) }
+    ensures proved { IfOk result (IsProvedRun plan.now sizes.ring initial.items) }
     ensures fault { IfErr result (IsFaultOfRun AnswersInKind [] plan.now sizes) }
 {
     let operations = plan.operations();
     let room = initial.len() + operations as usize;
     let named = Tickets::with_nodes(alloc, 2 * operations, initial.as_slice(), room)?;
     run_between::<Brand, R>(rt, alloc, named, initial, plan, sizes)
+}
+
+// Runs a plan on nodes without a lock, which hold these values at first.
+fn run_lock_free<R: Threads + Sync>(
+    rt: &R,
+    alloc: Global,
+    initial: Vec<u64>,
+    plan: &Plan,
+    sizes: Sizes,
+) -> Result<Recorded, RunFault>
+    requires sizes { IsWithinLimits sizes.ring sizes.tries }
+    requires names { AreInitialNames initial.items }
+    ensures proved { IfOk result (IsProvedRun plan.now sizes.ring initial.items) }
+    ensures fault { IfErr result (IsFaultOfRun AnswersInKind [] plan.now sizes) }
+{
+    let operations = plan.operations();
+    let room = initial.len() + operations as usize;
+    let (tickets, pass) = Tickets::with_shared_nodes(alloc, 2 * operations, initial.as_slice(), room)?;
+    let (lists, pass) = run_on(rt, alloc, &LockFree, &tickets, pass, plan, sizes)?;
+    let total = tickets.close_with_shared_nodes(pass);
+    Ok(Recorded {
+        initial,
+        lists,
+        total,
+    })
 }
 
 // Runs a plan on this queue, which holds these values at first.
@@ -180,25 +192,21 @@ fn run_held<R: Threads + Wait + Sync>(
 ) -> Result<Recorded, RunFault>
     requires sizes { IsWithinLimits sizes.ring sizes.tries }
     requires names { AreInitialNames initial.items }
-    ensures recorded { IfOk result (λ r. IsRun AnswersInKind plan.now r.lists r.total) }
-    ensures initial { IfOk result (λ r. r.initial ≡ initial.items) }
-    ensures lists { IfOk result (λ r. AreRecorded r.lists) }
-    ensures replays { IfOk result (λ r. Replays sizes.ring initial.items r.lists) }
-    ensures fits { IfOk result (λ r. (merged : List Event) → IsMerged r.lists merged → IsCompleteFrom initial.items merged) }
-    ensures linearizable { IfOk result (λ r. (merged : List Event) → IsMerged r.lists merged → IsLinearizable initial.items (operations_of merged)) }
+    ensures proved { IfOk result (IsProvedRun plan.now sizes.ring initial.items) }
     ensures fault { IfErr result (IsFaultOfRun AnswersInKind [] plan.now sizes) }
 {
     match queue {
         ProvedQueue::OneLock => run_one_lock(rt, alloc, initial, plan, sizes),
         ProvedQueue::TwoLocks => run_two_locks(rt, alloc, initial, plan, sizes),
+        ProvedQueue::LockFree => run_lock_free(rt, alloc, initial, plan, sizes),
     }
 }
 
 /// Runs a plan on a proved queue, which is made for this run alone and holds these values at first. The recorded history
 /// is linearizable from them, whatever order the threads take.
 ///
-/// Each answer is noted by the step that decides it. The notes exist in proofs alone; each costs four to seven loads of
-/// the ticket word. Faults, waiting and memory are as of [`run_from`](crate::run_from), with the memory of the list or
+/// Each answer is noted by the step that decides it. The notes exist in proofs alone; with a lock, each costs four to
+/// seven loads of the ticket word. Faults, waiting and memory are as of [`run_from`](crate::run_from), with the memory of the list or
 /// the nodes in place of the queue's; `Preload` never comes.
 pub fn run_proved<R: Threads + Wait + Sync>(
     rt: &R,

@@ -274,7 +274,7 @@ pub(crate) fn run_on<Q: Asked + Sync, R: Threads + Sync>(
 ) -> Result<(Lists, Pass), RunFault>
     requires sizes { IsWithinLimits sizes.ring sizes.tries }
     requires pass { pass ≡ fresh_pass tickets.now.key (2 * sum_by length plan.now) }
-    requires word { Q.of_word queue.now tickets.now.key }
+    requires word { Q.of_word queue.now tickets.now }
     ensures key { IfOk result (λ r. r.1.key ≡ tickets.now.key) }
     ensures whole { IfOk result (λ r. share_of r.1 ≡ 2 * sum_by length plan.now) }
     ensures recorded { IfOk result (λ r. (total : ℕ) → r.1.drawn ≡ numbers_below total → IsRun (Q.may queue.now) plan.now r.0 total) }
@@ -333,7 +333,7 @@ fn work_and_collect<Q: Asked + Sync, R: Threads + Sync>(
     sizes: Sizes,
 ) -> Result<(Vec<Worker>, Collector), AllocError>
     requires ready { All (IsReadyIn tickets.now.key rows.now) workers.items }
-    requires word { Q.of_word queue.now tickets.now.key }
+    requires word { Q.of_word queue.now tickets.now }
     ensures worked { IfOk result (λ r. AllZip (WorksIn (Q.may queue.now) rows.now) workers.items r.0.items) }
     ensures told { IfOk result (λ r. AllZip (KeepsNotes (Q.notes queue.now)) workers.items r.0.items) }
     ensures rings { IfOk result (λ r. rings_of r.1.rings ≡ rings_of collector.rings) }
@@ -343,7 +343,7 @@ fn work_and_collect<Q: Asked + Sync, R: Threads + Sync>(
     let abandoned = AtomicBool::new(false);
     let is_abandoned = &abandoned;
     let working = move || -> Result<Vec<Worker>, AllocError>
-        requires { All (IsReadyIn tickets.now.key rows.now) workers.items × Q.of_word queue.now tickets.now.key }
+        requires { All (IsReadyIn tickets.now.key rows.now) workers.items × Q.of_word queue.now tickets.now }
         ensures worked { IfOk result (λ after. AllZip (WorksIn (Q.may queue.entry.now) rows.entry.now) workers.items after.items) }
         ensures told { IfOk result (λ after. AllZip (KeepsNotes (Q.notes queue.entry.now)) workers.items after.items) }
     {

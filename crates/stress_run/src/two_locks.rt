@@ -123,7 +123,7 @@ impl<'r, J: OfRun + Send + Sync, R: Wait> Asked for TwoLocks<'r, J, R> {
 
     ghost notes = { λ _. true };
 
-    ghost of_word = { λ _ key. key ≡ J.word };
+    ghost of_word = { λ _ tickets. tickets.key ≡ J.word };
 
     fn enqueue(&self, ask: AskEnq, pass: &mut Pass, tickets: &Tickets) -> AnsweredEnq {
         self.tail.lock(self.rt).enqueue(ask, pass, tickets)

@@ -198,7 +198,7 @@ impl Worker {
         requires left { 2 ≤ self.old.pass.left }
         requires room { self.old.asked < NAMES_OF_A_THREAD }
         requires running { self.old.stopped ≡ false }
-        requires word { Q.of_word queue.now tickets.now.key }
+        requires word { Q.of_word queue.now tickets.now }
         ensures works { OnOk result (Works (Q.may queue.now) (kind ∷ []) self.old self.new) }
         ensures told { OnOk result (KeepsNotes (Q.notes queue.now) self.old self.new) }
         ensures stalls { OnErr result (Stalls kind self.old self.new) }
@@ -234,7 +234,7 @@ fn stamped_answer<Q: Asked>(queue: &Q, ask: AnyAsk, pass: &mut Pass, tickets: &T
     requires key { (pass.old.key ≡ tickets.now.key) × ((question_in ask).key ≡ tickets.now.key) }
     requires drew { Contains pass.old.drawn (question_in ask).call }
     requires some_left { 0 < pass.old.left }
-    requires word { Q.of_word queue.now tickets.now.key }
+    requires word { Q.of_word queue.now tickets.now }
     ensures { IsStamped (Q.may queue.now) (Q.notes queue.now) (question_in ask) pass.old pass.new result }
 {
     match ask {
@@ -284,7 +284,7 @@ pub(crate) fn call_on<Q: Asked>(
     requires key { worker.old.pass.key ≡ tickets.now.key }
     requires left { 2 ≤ worker.old.pass.left }
     requires room { worker.old.asked < NAMES_OF_A_THREAD }
-    requires word { Q.of_word queue.now tickets.now.key }
+    requires word { Q.of_word queue.now tickets.now }
     ensures works { OnOk result (Works (Q.may queue.now) (kind ∷ []) worker.old worker.new) }
     ensures stalls { OnErr result (Stalls kind worker.old worker.new) }
     ensures running { OnOk result (worker.old.stopped ≡ false) }

@@ -8,4 +8,6 @@ mod Steps
 mod Apart
 mod Logged
 mod Rows
+mod Beside
+mod Walks
 mod Ends

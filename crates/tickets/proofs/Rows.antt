@@ -26,7 +26,7 @@ knowers_of h = knowers h.log
 
 -- ---- rights
 
-counts-set : (f : Holding → ℕ) (views : List Holding) (i : ℕ) (v w : Holding) → get_elem? views i ≡ some v
+pub counts-set : (f : Holding → ℕ) (views : List Holding) (i : ℕ) (v w : Holding) → get_elem? views i ≡ some v
     → sum_by f (set views i w) + f v ≡ sum_by f views + f w
 counts-set f views i v w at = let p = place_in views i v at in
     subst (λ (h : Holding). sum_by f (set views i w) + f h ≡ sum_by f views + f w) (p.1 v) (sum_by-set f views i w v p.0)

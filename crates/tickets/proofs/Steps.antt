@@ -18,10 +18,10 @@ use Rattle.atomic_table.proofs.Lists.{set_again, set_else}
 use Rattle.tickets.specs.declared.account.Holding.{Holding}
 use Rattle.tickets.specs.Account.{whole_of, IsAccount}
 use Rattle.tickets.specs.Inner.Account.{first_of, holding, logging, known_log, knows_log, without_log, with_log}
-use Rattle.tickets.specs.Inner.Account.{AreBooked, initial_of, either_log, with_both, with_known}
-use Rattle.tickets.specs.Inner.Nodes.{holders, AreNodes}
+use Rattle.tickets.specs.Inner.Account.{AreBooked, AreBeside, either_log, with_both, with_known}
+use Rattle.tickets.specs.Inner.Nodes.{holders}
 use Rattle.tickets.specs.declared.account.Setup.{Setup}
-use Rattle.tickets.proofs.Rows.{nodes_same, nodes_split, nodes_join, nodes_known}
+use Rattle.tickets.proofs.Beside.{beside_same, beside_split, beside_join, beside_known}
 use Rattle.tickets.specs.Inner.Account.{noting, KeepsAccount, DrawsNext, NotesAt, LooksAtShare, merged, put_together}
 use Rattle.tickets.specs.Log.{IsLogged, Knows, LooksRise, knowers, note_at}
 use Rattle.tickets.specs.declared.note.Effect.{Effect}
@@ -117,38 +117,38 @@ module _ (setup : Setup) where
       omega arith
 
   -- the table after its first word became x
-  pub kept : (words : List ℕ) (x : ℕ) (views : List Holding) → 0 < length words → IsAccount setup.budget x views → AreBooked (initial_of setup) x words views
+  pub kept : (words : List ℕ) (x : ℕ) (views : List Holding) → 0 < length words → IsAccount setup.budget x views → AreBooked setup x words views
       → ((0 < length (set words 0 x)) × IsAccount setup.budget (get_or (set words 0 x) 0 0) views)
-      × AreBooked (initial_of setup) (get_or (set words 0 x) 0 0) (set words 0 x) views
+      × AreBooked setup (get_or (set words 0 x) 0 0) (set words 0 x) views
   kept words x views wide a b =
       let same = sym (get_or-set_same words 0 x 0 wide) in
       let row = drop-set-lt 1 words 0 x (omega arith) in (
         (subst (λ (n : ℕ). 0 < n) (sym (length-set words 0 x)) wide, subst (λ (z : ℕ). IsAccount setup.budget z views) same a),
-        subst (λ (z : ℕ). AreBooked (initial_of setup) z (set words 0 x) views) same
-            (record { log = b.log; logged = b.logged; nodes = subst (λ (r : List ℕ). AreNodes (initial_of setup) r b.log views) (sym row) b.nodes }),
+        subst (λ (z : ℕ). AreBooked setup z (set words 0 x) views) same
+            (record { log = b.log; logged = b.logged; nodes = subst (λ (r : List ℕ). AreBeside setup r b.log views) (sym row) b.nodes }),
       )
 
   -- the table after a further word became y
   pub kept_else : (words : List ℕ) (i j y : ℕ) (log : List Note) (views : List Holding) → i ≡ 1 + j → 0 < length words
       → IsAccount setup.budget (get_or words 0 0) views → IsLogged (get_or words 0 0) log views
-      → AreNodes (initial_of setup) (set (drop 1 words) j y) log views
+      → AreBeside setup (set (drop 1 words) j y) log views
       → ((0 < length (set words i y)) × IsAccount setup.budget (get_or (set words i y) 0 0) views)
-      × AreBooked (initial_of setup) (get_or (set words i y) 0 0) (set words i y) views
+      × AreBooked setup (get_or (set words i y) 0 0) (set words i y) views
   kept_else words i j y log views is wide a l nodes =
       let same = sym (get_or-set_other words i 0 y 0 (λ e. absurd (omega arith))) in
       let row : drop 1 (set words i y) ≡ set (drop 1 words) j y = ap (λ (k : ℕ). drop 1 (set words k y)) is ∙ drop-set-add 1 words j y in (
         (subst (λ (n : ℕ). 0 < n) (sym (length-set words i y)) wide, subst (λ (z : ℕ). IsAccount setup.budget z views) same a),
-        subst (λ (z : ℕ). AreBooked (initial_of setup) z (set words i y) views) same
-            (record { log = log; logged = l; nodes = subst (λ (r : List ℕ). AreNodes (initial_of setup) r log views) (sym row) nodes }),
+        subst (λ (z : ℕ). AreBooked setup z (set words i y) views) same
+            (record { log = log; logged = l; nodes = subst (λ (r : List ℕ). AreBeside setup r log views) (sym row) nodes }),
       )
 
   -- the table after a look at a word
   pub kept_seen : (words : List ℕ) (i : ℕ) (views : List Holding) → 0 < length words → IsAccount setup.budget (get_or words 0 0) views
-      → AreBooked (initial_of setup) (get_or words 0 0) words views
+      → AreBooked setup (get_or words 0 0) words views
       → ((0 < length (set words i (get_or words i 0))) × IsAccount setup.budget (get_or (set words i (get_or words i 0)) 0 0) views)
-      × AreBooked (initial_of setup) (get_or (set words i (get_or words i 0)) 0 0) (set words i (get_or words i 0)) views
+      × AreBooked setup (get_or (set words i (get_or words i 0)) 0 0) (set words i (get_or words i 0)) views
   kept_seen words i views wide a b =
-      subst (λ (ws : List ℕ). ((0 < length ws) × IsAccount setup.budget (get_or ws 0 0) views) × AreBooked (initial_of setup) (get_or ws 0 0) ws views)
+      subst (λ (ws : List ℕ). ((0 < length ws) × IsAccount setup.budget (get_or ws 0 0) views) × AreBooked setup (get_or ws 0 0) ws views)
       (sym (set-get_or words i 0)) ((wide, a), b)
 
   account_drawn : (n : ℕ) (views : List Holding) (i : ℕ) (v : Holding) → IsAccount setup.budget n views → get_elem? views i ≡ some v → 0 < v.left
@@ -211,9 +211,9 @@ module _ (setup : Setup) where
             (record {
               log = r.1.log;
               logged = logged_same n (suc n) r.1.log s.views id v w (omega arith) r.1.logged at refl refl (λ e. absurd (not_empty v.drawn n e));
-              nodes = nodes_same _ _ _ s.views r.1.nodes id v w at refl refl refl;
+              nodes = beside_same setup _ _ s.views r.1.nodes id v w at refl refl refl refl;
             })),
-        ((omega arith, refl, below, omega arith, refl, refl, refl, refl, noted_within n r.1.log s.views id v r.1.logged at), refl),
+        ((omega arith, refl, below, omega arith, refl, refl, refl, refl, refl, noted_within n r.1.log s.views id v r.1.logged at), refl),
       )
 
   -- a split keeps the account: the new pass has its share, and has drawn nothing
@@ -247,7 +247,7 @@ module _ (setup : Setup) where
           log = r.1.log;
           logged = logged_push (get_or s.words 0 0) r.1.log (set s.views id w) new
               (logged_same (get_or s.words 0 0) (get_or s.words 0 0) r.1.log s.views id v w (omega arith) r.1.logged at refl refl (λ e. e)) refl refl;
-          nodes = nodes_split _ _ _ s.views r.1.nodes id v w new at (omega arith) (omega arith) (omega arith) (λ fits. (fits, tt)) (λ _ fits. (fits, tt));
+          nodes = beside_split setup _ _ s.views r.1.nodes id v w new at (omega arith) (omega arith) (omega arith) (λ fits. (fits, tt)) (λ _ fits. (fits, tt)) refl refl;
         },
       )
 
@@ -303,8 +303,8 @@ module _ (setup : Setup) where
               let d = ap holders no_end.1 in
               let c' = ap holders no_end'.0 in
               let d' = ap holders no_end'.1 in
-              nodes_join _ _ _ views r.1.nodes id other v w m spent at there here (omega arith) (omega arith) (omega arith)
-              (λ _ _. (tt, tt)) (λ _ _ _. (tt, tt));
+              beside_join setup _ _ views r.1.nodes id other v w m spent at there here (omega arith) (omega arith) (omega arith)
+              (λ _ _. (tt, tt)) (λ _ _ _. (tt, tt)) (λ _. tt) refl;
         },
       )
 
@@ -321,7 +321,7 @@ module _ (setup : Setup) where
         keeps,
         tt,
         kept s.words n (set s.views id me.0) r.0.0 (subst (IsAccount setup.budget n) (sym (set_again s.views id me.0 at)) a)
-            (subst (AreBooked (initial_of setup) n s.words) (sym (set_again s.views id me.0 at)) r.1),
+            (subst (AreBooked setup n s.words) (sym (set_again s.views id me.0 at)) r.1),
         ((omega arith, rising_at s.views id me.0 at a.rising), refl),
       )
 
@@ -392,8 +392,8 @@ module _ (setup : Setup) where
         record {
           log = r.1.log;
           logged = logged_lent n r.1.log s.views id v r.1.logged at knows;
-          nodes = nodes_split _ _ _ s.views r.1.nodes id v w (logging (known_log v.log)) at (sym (ap knowers knows)) (omega arith) (omega arith)
-              (λ fits. (fits, tt)) (λ _ fits. (fits, tt));
+          nodes = beside_split setup _ _ s.views r.1.nodes id v w (logging (known_log v.log)) at (sym (ap knowers knows)) (omega arith) (omega arith)
+              (λ fits. (fits, tt)) (λ _ fits. (fits, tt)) refl refl;
         },
       )
 
@@ -411,8 +411,8 @@ module _ (setup : Setup) where
           logged = logged_taken n r.1.log s.views id other v log r.1.logged at here apart none;
           nodes =
               let a = ap knowers none in
-              nodes_join _ _ _ s.views r.1.nodes id other v w m (holding 0 [] []) at there here (omega arith) (omega arith) (omega arith)
-              (λ fits _. (fits, tt)) (λ _ fits _. (fits, tt));
+              beside_join setup _ _ s.views r.1.nodes id other v w m (holding 0 [] []) at there here (omega arith) (omega arith) (omega arith)
+              (λ fits _. (fits, tt)) (λ _ fits _. (fits, tt)) (λ fits. fits) refl;
         },
       )
 
@@ -435,7 +435,7 @@ module _ (setup : Setup) where
             (record {
               log = log ++ note_at call effect n ∷ [];
               logged = logged_noted n log s.views id v call effect l at knows (contains_some v.drawn call drew) above;
-              nodes = nodes_known _ _ _ s.views r.1.nodes id v w (log ++ note_at call effect n ∷ []) at (ap knowers knows) refl refl refl;
+              nodes = beside_known setup _ _ s.views r.1.nodes id v w (log ++ note_at call effect n ∷ []) at (ap knowers knows) refl refl refl;
             }),
         ((refl, above, subst (All (λ (m : Note). m.look ≤ n)) (sym is) (looks_within 0 log n l.rise)), refl),
       )
@@ -473,9 +473,14 @@ whole_of-put_together v w =
     let sum = length-append v.drawn w.drawn in
     omega arith
 
--- the first pass knows the log
-pub first_knows : (v : Holding) (setup : Setup) → setup.has_nodes ≡ false → v ≡ first_of setup → knows_log v
-first_knows v setup none is = subst knows_log (sym is) (subst (λ (b : Bool). knows_log (if b then with_both setup else with_known setup)) (sym none) refl)
+-- without nodes the first pass knows the log
+pub first_plain : (setup : Setup) → setup.has_nodes ≡ false → setup.is_shared ≡ false → first_of setup ≡ with_known setup
+first_plain setup none unshared =
+    ap (λ (b : Bool). if b then with_both setup else (if setup.is_shared then holding setup.budget [] [] else with_known setup)) none
+    ∙ ap (λ (b : Bool). if b then holding setup.budget [] [] else with_known setup) unshared
+
+pub first_knows : (v : Holding) (setup : Setup) → setup.has_nodes ≡ false → setup.is_shared ≡ false → v ≡ first_of setup → knows_log v
+first_knows v setup none unshared is = subst knows_log (sym (is ∙ first_plain setup none unshared)) refl
 
 -- a pass that noted knows the log
 pub noted_knows : (v w : Holding) (call : ℕ) (effect : Effect) (look : ℕ) → w ≡ noting call effect look v → knows_log w

@@ -1,14 +1,18 @@
 -- What contracts see of the tickets, of a pass and of one drawn ticket.
-use Rattle.std.specs.Prelude.{◌≡◌, ℕ, ◌+◌, ◌<◌, ◌≤◌, List, [], ◌∷◌, ◌++◌, length, All}
+use Rattle.std.specs.Prelude.{◌≡◌, ℕ, ◌+◌, ◌<◌, ◌≤◌, List, [], ◌∷◌, ◌++◌, length, All, Bool}
 use Rattle.std.specs.List.{range_with_len}
 use Rattle.atomic_table.specs.Seated.{TableId}
 use Rattle.tickets.specs.declared.TheConstants.{TICKET_LIMIT}
 use Rattle.tickets.specs.declared.note.Note.{Note}
 
--- which ticket word it is, and how many tickets may be drawn in all
+-- which ticket word it is, how many tickets may be drawn in all, whether nodes stand beside it that all passes share, for how many
+-- values, and what these held first
 pub record TicketsView : Type 0 where
   pub key : TableId
   pub budget : ℕ
+  pub shared : Bool
+  pub room : ℕ
+  pub initial : List ℕ
 
 -- the word that the pass draws from, how many it may still draw, what it has drawn, in rising order, and what it has noted in the log
 pub record PassView : Type 0 where

@@ -4,7 +4,7 @@
 //! keeps the list of what it drew. A pass can be split for another thread, and joined again. The pass with the whole
 //! budget holds each number below the word once.
 //!
-//! Nothing here takes a lock or waits. Only `Tickets::new` and `Tickets::with_log` take memory and can fail. There are
+//! Nothing here takes a lock or waits. Only what makes `Tickets` takes memory and can fail. Without nodes there are
 //! seven kinds of step. Making sets the word to 0, and gives the first pass the whole budget. Splitting, drawing and
 //! joining change the view of the pass that steps; a pass that was joined to another keeps the empty view. A look at
 //! the word, which changes no view, follows each join. Noting reads the word, and adds to the log, which exists in
@@ -18,6 +18,7 @@ mod log;
 mod nodes;
 mod note;
 mod pass;
+mod shared;
 mod source;
 
 pub use drawn::Drawn;
@@ -30,3 +31,6 @@ pub use source::Tickets;
 
 /// Every ticket is below this number, and no budget is above it.
 pub const TICKET_LIMIT: u64 = 1_000_000_000_000;
+
+/// The number that marks an empty node among those that all passes share, so no value: 2^38 - 1.
+pub const NO_VALUE: u64 = (1 << 38) - 1;

@@ -30,7 +30,8 @@ impl Model for Pass {
     ghost view = { λ p. record { key = p.seat.table_id; left = p.left; drawn = p.seat.me.0.drawn; noted = p.seat.me.0.noted } };
 
     ghost invariant = { λ p. (p.seat.me.0.left ≡ p.left) × (p.left + length p.seat.me.0.drawn ≡ p.share)
-        × (p.seat.me.1 ≡ []) × (p.seat.me.0.log ≡ None) × (p.seat.me.0.tail ≡ None) × (p.seat.me.0.head ≡ None) };
+        × (p.seat.me.1 ≡ []) × (p.seat.me.0.log ≡ None) × (p.seat.me.0.tail ≡ None) × (p.seat.me.0.head ≡ None)
+        × (p.seat.me.0.walk ≡ None) };
 }
 
 // Cuts n tickets off the seat's share, for a new seat. The caller picks `M` for its n.

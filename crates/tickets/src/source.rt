@@ -1,7 +1,9 @@
 // The word that all passes draw from.
 ghost use Rattle.std.specs.Prelude.{◌≡◌, ◌+◌, ◌≤◌, IfOk, length, take, drop, slice_index_or};
 ghost use Rattle.tickets.specs.declared.TheConstants.{TICKET_LIMIT};
+ghost use Rattle.tickets.specs.Inner.Shared.{shared_words};
 
+use crate::NO_VALUE;
 use crate::account::{
     Account, EndsApart, HeadApart, Holding, LogApart, Setup, TakesEnds, TakesLog,
 };
@@ -15,11 +17,13 @@ use std::snapshot::Snapshot;
 
 /// The word that tickets are drawn from: the next number, from 0.
 ///
-/// Threads share it by reference. Contracts see which word it is, as its key, and its budget: how many tickets may be
-/// drawn in all.
+/// Threads share it by reference. Contracts see which word it is, as its key, its budget: how many tickets may be
+/// drawn in all, and whether nodes that all passes share stand beside it, with what these held first.
 #[derive(Drop)]
 pub struct Tickets {
     pub(crate) table: Table<(), Holding, Setup, Account, Global>,
+    // For how many values there are nodes that all passes share.
+    pub(crate) room: usize,
 }
 
 impl Model for Tickets {
@@ -27,18 +31,28 @@ impl Model for Tickets {
 
     ghost Value = { TicketsView };
 
-    ghost use Rattle.std.specs.Prelude.{◌≡◌, ◌<◌};
+    ghost use Rattle.std.specs.Prelude.{◌≡◌, ◌+◌, ◌<◌, ◌≤◌, length, true};
+    ghost use Rattle.tickets.specs.declared.TheConstants.{TICKET_LIMIT};
+    ghost use Rattle.tickets.specs.Inner.Account.{shared_initial};
 
-    ghost view = { λ t. record { key = t.table.shared.table_id; budget = t.table.shared.key.budget } };
+    ghost view = { λ t. record {
+      key = t.table.shared.table_id;
+      budget = t.table.shared.key.budget;
+      shared = t.table.shared.key.is_shared;
+      room = t.room;
+      initial = shared_initial t.table.shared.key;
+    } };
 
-    ghost invariant = { λ t. (0 < t.table.shared.table_id.words) × (t.table.shared.table_id.slots ≡ 0) };
+    ghost invariant = { λ t. (0 < t.table.shared.table_id.words) × (t.table.shared.table_id.slots ≡ 0)
+        × (t.table.shared.key.is_shared ≡ true → (t.table.shared.table_id.words ≡ t.room + 4) × (length t.table.shared.key.words.value.items ≡ t.room + 4)
+        × (t.room ≤ TICKET_LIMIT)) };
 }
 
 impl Tickets {
-    ghost use Rattle.std.specs.Prelude.{◌≡◌, ◌≤◌, [], IfOk, IsPermutation, List, IsSome, length};
+    ghost use Rattle.std.specs.Prelude.{◌≡◌, ◌≢◌, ◌≤◌, [], All, IfOk, IsPermutation, List, IsSome, length, true};
     ghost use Rattle.tickets.specs.declared.note.Note.{Note};
     ghost use Rattle.tickets.specs.Nodes.{queue_after};
-    ghost use Rattle.tickets.specs.declared.TheConstants.{TICKET_LIMIT};
+    ghost use Rattle.tickets.specs.declared.TheConstants.{NO_VALUE, TICKET_LIMIT};
     ghost use Rattle.tickets.specs.Log.{LooksRise};
     ghost use Rattle.tickets.specs.Views.{fresh_pass, share_of, numbers_below};
 
@@ -68,13 +82,14 @@ impl Tickets {
         let setup = Setup {
             budget,
             has_nodes: false,
+            is_shared: false,
             filled: 0,
             words: Snapshot::of(&Vec::new(alloc)),
         };
         let (table, mut seat) = Table::of_words(alloc, &[0], &setup)?;
         let log = table.shared.split_seat::<LogApart>(&mut seat);
         Ok((
-            Tickets { table },
+            Tickets { table, room: 0 },
             Pass {
                 seat,
                 share: budget,
@@ -106,6 +121,7 @@ impl Tickets {
         let setup = Setup {
             budget,
             has_nodes: true,
+            is_shared: false,
             filled: initial.len(),
             words: Snapshot::of(&words),
         };
@@ -113,7 +129,7 @@ impl Tickets {
         let mut ends = table.shared.split_seat::<EndsApart>(&mut seat);
         let head = table.shared.split_seat::<HeadApart>(&mut ends);
         Ok((
-            Tickets { table },
+            Tickets { table, room: 0 },
             Pass {
                 seat,
                 share: budget,
@@ -121,6 +137,44 @@ impl Tickets {
             },
             TailEnd::of_seat(ends, initial.len(), room),
             HeadEnd::of_seat(head, room),
+        ))
+    }
+
+    /// Makes a new word with a row of nodes beside it that all passes share, which hold these values first and have room
+    /// for `room` in all. Returns a pass that has the whole budget as its share.
+    ///
+    /// It takes memory for each node, and fails only if that is refused.
+    pub fn with_shared_nodes(
+        alloc: Global,
+        budget: u64,
+        initial: &[u64],
+        room: usize,
+    ) -> Result<(Tickets, Pass), AllocError>
+        requires budget { budget ≤ TICKET_LIMIT }
+        requires fits { length initial.now ≤ room }
+        requires room { room ≤ TICKET_LIMIT }
+        requires values { All (λ v. v ≢ NO_VALUE) initial.now }
+        ensures budget { IfOk result (λ t. t.0.budget ≡ budget) }
+        ensures shared { IfOk result (λ t. t.0.shared ≡ true) }
+        ensures initial { IfOk result (λ t. t.0.initial ≡ initial.now) }
+        ensures pass { IfOk result (λ t. t.1 ≡ fresh_pass t.0.key budget) }
+    {
+        let words = shared_words_of(alloc, initial, room)?;
+        let setup = Setup {
+            budget,
+            has_nodes: false,
+            is_shared: true,
+            filled: initial.len(),
+            words: Snapshot::of(&words),
+        };
+        let (table, seat) = Table::of_words(alloc, words.as_slice(), &setup)?;
+        Ok((
+            Tickets { table, room },
+            Pass {
+                seat,
+                share: budget,
+                left: budget,
+            },
         ))
     }
 
@@ -132,7 +186,7 @@ impl Tickets {
         requires whole { share_of pass ≡ self.budget }
         ensures { pass.drawn ≡ numbers_below result }
     {
-        let Tickets { table } = self;
+        let Tickets { table, room: _ } = self;
         let (seat, _, _) = pass.into_parts();
         let closed = table.close_with(seat);
         let next = closed.word(0);
@@ -150,7 +204,7 @@ impl Tickets {
         ensures noted { IsPermutation pass.noted log.notes }
         ensures rise { LooksRise 0 log.notes result }
     {
-        let Tickets { table } = self;
+        let Tickets { table, room: _ } = self;
         let (mut seat, _, _) = pass.into_parts();
         table
             .shared
@@ -160,6 +214,7 @@ impl Tickets {
         closed.free();
         total
     }
+
     /// Returns how many tickets were drawn, as `close` does. The pass has the whole budget as its share, so it noted all
     /// that was done at both ends of the nodes: there is a log of these notes, in which the looks rise, and a queue that
     /// held the values of the nodes first accepts it. It takes no memory.
@@ -170,11 +225,28 @@ impl Tickets {
         ensures drawn { pass.drawn ≡ numbers_below result }
         ensures log { (log : List Note) × IsPermutation pass.noted log × LooksRise 0 log result × IsSome (queue_after head.initial log) }
     {
-        let Tickets { table } = self;
+        let Tickets { table, room: _ } = self;
         let (mut seat, _, _) = pass.into_parts();
         table
             .shared
             .join_seat::<TakesEnds>(&mut seat, head.into_seat());
+        let closed = table.close_with(seat);
+        let total = closed.word(0);
+        closed.free();
+        total
+    }
+
+    /// Returns how many tickets were drawn, as `close` does. The pass has the whole budget as its share, so it noted all
+    /// that was done on the nodes that passes share: there is a log of these notes, in which the looks rise, and a queue
+    /// that held the values of the nodes first accepts it. It takes no memory.
+    pub fn close_with_shared_nodes(self, pass: Pass) -> u64
+        requires key { (pass.key ≡ self.key) × (self.shared ≡ true) }
+        requires whole { share_of pass ≡ self.budget }
+        ensures drawn { pass.drawn ≡ numbers_below result }
+        ensures log { (log : List Note) × IsPermutation pass.noted log × LooksRise 0 log result × IsSome (queue_after self.initial log) }
+    {
+        let Tickets { table, room: _ } = self;
+        let (seat, _, _) = pass.into_parts();
         let closed = table.close_with(seat);
         let total = closed.word(0);
         closed.free();
@@ -194,5 +266,18 @@ fn words_of(alloc: Global, initial: &[u64], room: usize) -> Result<Vec<u64>, All
     let mut words = vec![in alloc; 0, initial.len() as u64]?;
     words.extend_from_slice(initial)?;
     words.resize(room + 2, 0)?;
+    Ok(words)
+}
+
+// Returns the words of a table whose nodes all passes share: the next ticket, two counts and the nodes. One node more than
+// there is room for stays empty, so that a call finds an empty node after all others were taken.
+fn shared_words_of(alloc: Global, initial: &[u64], room: usize) -> Result<Vec<u64>, AllocError>
+    requires fits { length initial.now ≤ room }
+    requires room { room ≤ TICKET_LIMIT }
+    ensures { IfOk result (λ words. words.items ≡ shared_words initial.now room) }
+{
+    let mut words = vec![in alloc; 0, initial.len() as u64, 0]?;
+    words.extend_from_slice(initial)?;
+    words.resize(room + 4, NO_VALUE)?;
     Ok(words)
 }

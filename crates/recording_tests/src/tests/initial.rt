@@ -67,6 +67,22 @@ const CASES: [Case<'static>; 7] = [
     (&[FIRST, FIRST + 1], 2, 1, Some(RunFault::Preload(1)), None),
 ];
 
+// Returns whether the run of each proved queue ends as the case says.
+fn proved_end_so<R: Threads + Wait + Sync>(rt: &R, alloc: Global, plan: &Plan, case: &Case) -> bool {
+    let (initial, ring, tries, _, proved) = *case;
+    for queue in [
+        ProvedQueue::OneLock,
+        ProvedQueue::TwoLocks,
+        ProvedQueue::LockFree,
+    ] {
+        let ended = run_proved(rt, alloc, queue, initial, plan, ring, tries).err();
+        if ended != proved {
+            return false;
+        }
+    }
+    true
+}
+
 // Returns whether the runs of a case have its faults.
 fn end_so<R: Threads + Wait + Sync>(
     rt: &R,
@@ -74,20 +90,10 @@ fn end_so<R: Threads + Wait + Sync>(
     queue: &dyn TestQueue,
     case: &Case,
 ) -> Result<bool, Fail> {
-    let (initial, ring, tries, fault, proved) = *case;
+    let (initial, ring, tries, fault, _) = *case;
     let plan = Plan::from_text(alloc, "D\n")?;
     let found = run_from(rt, alloc, queue, initial, &plan, ring, tries).err();
-    let one_lock = run_proved(rt, alloc, ProvedQueue::OneLock, initial, &plan, ring, tries);
-    let two_locks = run_proved(
-        rt,
-        alloc,
-        ProvedQueue::TwoLocks,
-        initial,
-        &plan,
-        ring,
-        tries,
-    );
-    Ok(found == fault && one_lock.err() == proved && two_locks.err() == proved)
+    Ok(found == fault && proved_end_so(rt, alloc, &plan, case))
 }
 
 #[test]

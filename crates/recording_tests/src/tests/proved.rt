@@ -63,6 +63,12 @@ fn nodes_with_two_locks_give_the_first_value(rt: HostRuntime) -> Result<(), Fail
     Ok(())
 }
 
+#[test]
+fn nodes_without_a_lock_give_the_first_value(rt: HostRuntime) -> Result<(), Fail> {
+    assert!(rt; run_alone(&rt, rt.alloc(), ProvedQueue::LockFree)? == (true, true, 12));
+    Ok(())
+}
+
 // Returns whether a dequeue of a list returned a value.
 fn is_one_dequeued(list: &[Event]) -> bool {
     for event in list {
@@ -103,5 +109,11 @@ fn values_of_a_list_under_one_lock_are_dequeued(rt: HostRuntime) -> Result<(), F
 #[test]
 fn values_of_nodes_with_two_locks_are_dequeued(rt: HostRuntime) -> Result<(), Fail> {
     assert!(rt; run_four(&rt, rt.alloc(), ProvedQueue::TwoLocks)? == (true, 16_000));
+    Ok(())
+}
+
+#[test]
+fn values_of_nodes_without_a_lock_are_dequeued(rt: HostRuntime) -> Result<(), Fail> {
+    assert!(rt; run_four(&rt, rt.alloc(), ProvedQueue::LockFree)? == (true, 16_000));
     Ok(())
 }

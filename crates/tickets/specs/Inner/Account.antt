@@ -1,6 +1,6 @@
 -- What the steps of the account keep.
 use Rattle.std.specs.Prelude.{◌≡◌, ℕ, ◌+◌, ◌<◌, ◌≤◌, List, [], ◌∷◌, ◌++◌, length, All, slice_index}
-use Rattle.std.specs.Prelude.{cond, nat_lt, ◌-◌, take, drop, if◌then◌else◌, false, Option, Some, None}
+use Rattle.std.specs.Prelude.{cond, nat_lt, ◌-◌, take, drop, if◌then◌else◌, false, true, ◌⊎◌, Option, Some, None}
 use Rattle.std.specs.List.Sorted.{IsStrictlyIncreasing}
 use Rattle.atomic_table.specs.Table.{State}
 use Rattle.tickets.specs.declared.TheConstants.{TICKET_LIMIT}
@@ -11,14 +11,15 @@ use Rattle.tickets.specs.declared.note.Note.{Note}
 use Rattle.tickets.specs.Account.{whole_of, IsAccount}
 use Rattle.tickets.specs.Log.{IsLogged, note_at}
 use Rattle.tickets.specs.Inner.Nodes.{AreNodes, head_at, tail_at}
+use Rattle.tickets.specs.Inner.Shared.{AreShared}
 
 -- a pass that may still draw this many tickets, has drawn these, and has noted these operations
 abbrev pub holding : ℕ → List ℕ → List Note → Holding
-holding left drawn noted = record { left = left; drawn = drawn; noted = noted; log = None; tail = None; head = None }
+holding left drawn noted = record { left = left; drawn = drawn; noted = noted; log = None; tail = None; head = None; walk = None }
 
 -- the log, by which nothing is drawn
 abbrev pub logging : List Note → Holding
-logging log = record { left = 0; drawn = []; noted = []; log = Some log; tail = None; head = None }
+logging log = record { left = 0; drawn = []; noted = []; log = Some log; tail = None; head = None; walk = None }
 
 -- the values that the nodes hold first
 abbrev pub initial_of : Setup → List ℕ
@@ -37,33 +38,48 @@ with_both setup = record {
   log = None;
   tail = Some (tail_at setup.filled (room_of setup) None);
   head = Some (head_at 0 (room_of setup) (initial_of setup) false);
+  walk = None;
 }
 
 -- the first pass, which has the whole budget and knows the log
 abbrev pub with_known : Setup → Holding
-with_known setup = record { left = setup.budget; drawn = []; noted = []; log = Some []; tail = None; head = None }
+with_known setup = record { left = setup.budget; drawn = []; noted = []; log = Some []; tail = None; head = None; walk = None }
 
--- the first pass
+-- the first pass; if passes share nodes, it knows neither an end nor the log
 abbrev pub first_of : Setup → Holding
-first_of setup = if setup.has_nodes then with_both setup else with_known setup
+first_of setup = if setup.has_nodes then with_both setup else (if setup.is_shared then holding setup.budget [] [] else with_known setup)
+
+-- the values that shared nodes hold first
+abbrev pub shared_initial : Setup → List ℕ
+shared_initial setup = take setup.filled (drop 3 setup.words.value.items)
+
+-- for how many values there are shared nodes
+abbrev pub shared_room : Setup → ℕ
+shared_room setup = length setup.words.value.items - 4
+
+-- the words after the ticket word: nodes with two ends, or nodes that all passes share
+abbrev pub AreBeside : Setup → List ℕ → List Note → List Holding → Type 0
+AreBeside setup row log views = ((setup.is_shared ≡ false) × AreNodes (initial_of setup) row log views)
+    ⊎ ((setup.is_shared ≡ true) × AreShared (shared_initial setup) (shared_room setup) row log views)
 
 -- all notes are logged, and the nodes hold what the log says
-pub record AreBooked (initial : List ℕ) (next : ℕ) (words : List ℕ) (views : List Holding) : Type 0 where
+pub record AreBooked (setup : Setup) (next : ℕ) (words : List ℕ) (views : List Holding) : Type 0 where
   pub log : List Note
   pub logged : IsLogged next log views
-  pub nodes : AreNodes initial (drop 1 words) log views
+  pub nodes : AreBeside setup (drop 1 words) log views
 
 -- the first word is the next ticket
 abbrev pub KeepsAccount : Setup → State (Unit {0}) Holding → Type 0
 KeepsAccount setup s =
     ((0 < length s.words) × IsAccount setup.budget (slice_index s.words 0) s.views)
-    × AreBooked (initial_of setup) (slice_index s.words 0) s.words s.views
+    × AreBooked setup (slice_index s.words 0) s.words s.views
 
 -- the ticket is above all that the pass had drawn, and not below its looks; it goes last into what the pass has drawn
 abbrev pub DrawsNext : Holding → ℕ → Holding → Type 0
 DrawsNext before ticket after =
     (after.left + 1 ≡ before.left) × (after.drawn ≡ before.drawn ++ ticket ∷ []) × All (λ t. t < ticket) before.drawn × (ticket < TICKET_LIMIT)
     × (after.noted ≡ before.noted) × (after.log ≡ before.log) × (after.tail ≡ before.tail) × (after.head ≡ before.head)
+    × (after.walk ≡ before.walk)
     × All (λ n. n.look ≤ ticket) before.noted
 
 -- the notes that are known, if any are
@@ -114,4 +130,4 @@ either_log (Some log) other = Some log
 
 -- what a pass is that took in another: the rests added, and the tickets and the notes of both
 abbrev pub put_together : Holding → Holding → Holding
-put_together g h = record { left = g.left + h.left; drawn = merged g.drawn h.drawn; noted = g.noted ++ h.noted; log = either_log g.log h.log; tail = None; head = None }
+put_together g h = record { left = g.left + h.left; drawn = merged g.drawn h.drawn; noted = g.noted ++ h.noted; log = either_log g.log h.log; tail = None; head = None; walk = None }

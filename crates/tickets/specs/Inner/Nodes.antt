@@ -21,7 +21,7 @@ head_at at room initial ready = record { at = at; room = room; initial = initial
 
 -- rights at the ends alone
 abbrev pub ends : Option TailRight → Option HeadRight → Holding
-ends tail head = record { left = 0; drawn = []; noted = []; log = None; tail = tail; head = head }
+ends tail head = record { left = 0; drawn = []; noted = []; log = None; tail = tail; head = head; walk = None }
 
 -- what is left of a pass that gave the ends away
 abbrev pub without_ends : Holding → Holding

@@ -1,4 +1,4 @@
-use Rattle.std.proofs.Common.{List, ℕ, IfOk, subst, ap, ◌∙◌}
+use Rattle.std.proofs.Common.{List, ℕ, subst, ap, ◌∙◌}
 use Rattle.std.proofs.lemmas.Result.{IfOk-weaker, IfErr-weaker}
 use Rattle.event_records.specs.declared.event.Event.{Event}
 use Rattle.history_merge.specs.Initial.{IsCompleteFrom}
@@ -11,21 +11,21 @@ use Rattle.stress_run.proofs.Preloads.{fault_from, names_no_value}
 use Rattle.stress_run.proofs.proving.run_proved.Goals as goal
 
 pub returns-clause-linearizable : goal.returns-clause-linearizable
-returns-clause-linearizable g c =
-    subst (λ (values : List ℕ). IfOk c.run_held.result (λ r. (merged : List Event) → IsMerged r.lists merged
-    → IsLinearizable values (operations_of merged))) c.in_ok-sizes.ensures.held.0 c.run_held.ensures.linearizable
+returns-clause-linearizable g c = IfOk-weaker c.run_held.result _ _ (λ r is.
+    subst (λ (values : List ℕ). (merged : List Event) → IsMerged r.lists merged → IsLinearizable values (operations_of merged))
+    c.in_ok-sizes.ensures.held.0 is.linearizable) c.run_held.ensures.proved
 
 pub returns-clause-fits : goal.returns-clause-fits
-returns-clause-fits g c =
-    subst (λ (values : List ℕ). IfOk c.run_held.result (λ r. (merged : List Event) → IsMerged r.lists merged → IsCompleteFrom values merged))
-    c.in_ok-sizes.ensures.held.0 c.run_held.ensures.fits
+returns-clause-fits g c = IfOk-weaker c.run_held.result _ _ (λ r is.
+    subst (λ (values : List ℕ). (merged : List Event) → IsMerged r.lists merged → IsCompleteFrom values merged)
+    c.in_ok-sizes.ensures.held.0 is.fits) c.run_held.ensures.proved
 
 pub returns-clause-replays : goal.returns-clause-replays
 returns-clause-replays g c =
     let ring = ap (λ (s : SizesView). s.ring) c.in_ok-sizes.ensures.sizes.0 in
-    IfOk-weaker c.run_held.result _ _ (λ r h.
+    IfOk-weaker c.run_held.result _ _ (λ r is.
     subst (λ (n : ℕ). Replays n c.args.initial.now r.lists) ring
-    (subst (λ (values : List ℕ). Replays c.in_ok-sizes.sizes.ring values r.lists) c.in_ok-sizes.ensures.held.0 h)) c.run_held.ensures.replays
+    (subst (λ (values : List ℕ). Replays c.in_ok-sizes.sizes.ring values r.lists) c.in_ok-sizes.ensures.held.0 is.replays)) c.run_held.ensures.proved
 
 pub returns-clause-fault : goal.returns-clause-fault
 returns-clause-fault g c =
@@ -42,10 +42,10 @@ pub returns-clause-names : goal.returns-clause-names
 returns-clause-names g c = λ not_names. absurd (not_names c.in_ok-sizes.ensures.held.1)
 
 pub returns-clause-recorded : goal.returns-clause-recorded
-returns-clause-recorded g c = c.run_held.ensures.recorded
+returns-clause-recorded g c = IfOk-weaker c.run_held.result _ _ (λ r is. is.recorded) c.run_held.ensures.proved
 
 pub returns-clause-lists : goal.returns-clause-lists
-returns-clause-lists g c = c.run_held.ensures.lists
+returns-clause-lists g c = IfOk-weaker c.run_held.result _ _ (λ r is. is.lists) c.run_held.ensures.proved
 
 pub returns-clause-initial : goal.returns-clause-initial
-returns-clause-initial g c = IfOk-weaker c.run_held.result _ _ (λ r same. same ∙ c.in_ok-sizes.ensures.held.0) c.run_held.ensures.initial
+returns-clause-initial g c = IfOk-weaker c.run_held.result _ _ (λ r is. is.from_initial ∙ c.in_ok-sizes.ensures.held.0) c.run_held.ensures.proved

@@ -52,6 +52,7 @@ invariant_of-result c =
       ap (λ (h : Holding). h.log) (joined c),
       ap (λ (h : Holding). h.tail) (joined c),
       ap (λ (h : Holding). h.head) (joined c),
+      ap (λ (h : Holding). h.walk) (joined c),
     )
 
 pub returns-clause-drawn : goal.returns-clause-drawn

@@ -1,0 +1,21 @@
+-- What a run of a proved queue gives.
+use Rattle.std.specs.Prelude.{◌≡◌, ℕ, List}
+use Rattle.event_records.specs.declared.event.Event.{Event}
+use Rattle.event_records.specs.declared.kind.Kind.{Kind}
+use Rattle.history_merge.specs.Initial.{IsCompleteFrom}
+use Rattle.history_merge.specs.Legal.{IsLinearizable}
+use Rattle.history_merge.specs.Merge.{IsMerged}
+use Rattle.history_merge.specs.Operations.{operations_of}
+use Rattle.queue_interface.specs.Answers.{AnswersInKind}
+use Rattle.recorder_core.specs.Replay.{AreRecorded, Replays}
+use Rattle.stress_run.specs.Operations.{IsRun}
+use Rattle.stress_run.specs.Recorded.{RecordedView}
+
+-- a run of the plan from these values: recorded lists, which replay with rings of this size, and merge to a complete and linearizable history
+pub record IsProvedRun (plan : List (List Kind)) (ring : ℕ) (initial : List ℕ) (r : RecordedView) : Type 0 where
+  pub recorded : IsRun AnswersInKind plan r.lists r.total
+  pub from_initial : r.initial ≡ initial
+  pub lists : AreRecorded r.lists
+  pub replays : Replays ring initial r.lists
+  pub fits : (merged : List Event) → IsMerged r.lists merged → IsCompleteFrom initial merged
+  pub linearizable : (merged : List Event) → IsMerged r.lists merged → IsLinearizable initial (operations_of merged)

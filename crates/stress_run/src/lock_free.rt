@@ -1,0 +1,34 @@
+// The queue that is proved, without a lock: a row of nodes beside the ticket word, which all workers share.
+use crate::asked::Asked;
+use event_records::{AnsweredDeq, AnsweredEnq, AskDeq, AskEnq};
+use tickets::{Pass, Tickets};
+
+// The queue that the nodes beside the ticket word are. A worker needs nothing but its pass.
+#[derive(Drop)]
+pub(crate) struct LockFree;
+
+impl Asked for LockFree {
+    ghost use Rattle.std.specs.Prelude.{◌≡◌, true};
+    ghost use Rattle.queue_interface.specs.Answers.{AnswersInKind};
+
+    ghost may = { λ _. AnswersInKind };
+
+    ghost notes = { λ _. true };
+
+    ghost of_word = { λ _ tickets. tickets.shared ≡ true };
+
+    fn enqueue(&self, ask: AskEnq, pass: &mut Pass, tickets: &Tickets) -> AnsweredEnq {
+        if pass.push(tickets, ask.call(), ask.value()) {
+            ask.taken()
+        } else {
+            ask.not_taken()
+        }
+    }
+
+    fn dequeue(&self, ask: AskDeq, pass: &mut Pass, tickets: &Tickets) -> AnsweredDeq {
+        match pass.pop(tickets, ask.call()) {
+            Some(value) => ask.got(value),
+            None => ask.empty(),
+        }
+    }
+}
