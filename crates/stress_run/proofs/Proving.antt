@@ -1,7 +1,9 @@
 -- A run whose notes are a legal log of its operations is one of a proved queue.
-use Rattle.std.proofs.Common.{◌≡◌, ℕ, ◌≤◌, List, refl, IsPermutation, arith}
+use Rattle.std.proofs.Common.{◌≡◌, ◌≢◌, ℕ, ◌≤◌, List, All, refl, IsPermutation, arith}
+use Rattle.std.proofs.lemmas.List.Elements.{All-weaker}
 use Rattle.event_records.specs.declared.event.Event.{Event}
 use Rattle.event_records.specs.declared.kind.Kind.{Kind}
+use Rattle.event_records.specs.declared.limits.TheConstants.{LEAST_INITIAL_NAME}
 use Rattle.history_merge.specs.Queue.{IsAccepted}
 use Rattle.queue_interface.specs.Answers.{AnswersInKind}
 use Rattle.recorder_core.specs.Initial.{AreInitialNames}
@@ -13,6 +15,7 @@ use Rattle.stress_run.specs.Inner.Proved.{IsProvedRun}
 use Rattle.stress_run.specs.Noted.{AreNotesOfAll, kinds_noted}
 use Rattle.stress_run.specs.Operations.{IsRun}
 use Rattle.stress_run.proofs.Told.{linearizable}
+use Rattle.tickets.specs.declared.TheConstants.{NO_VALUE}
 use Rattle.tickets.specs.declared.note.Note.{Note}
 use Rattle.tickets.specs.Log.{LooksRise}
 
@@ -30,3 +33,7 @@ proved_run plan ring tries initial lists total noted log within names run record
       fits = λ merged is. merged_is_complete_from _ merged fit is _ names;
       linearizable = λ merged is. linearizable _ _ _ merged fit told logged is initial total rise accepted;
     }
+
+-- no initial value is the mark of an empty node
+pub no_mark : (values : List ℕ) → AreInitialNames values → All (λ v. v ≢ NO_VALUE) values
+no_mark values names = All-weaker (λ (v : ℕ). LEAST_INITIAL_NAME ≤ v) (λ (v : ℕ). v ≢ NO_VALUE) (λ v low e. absurd (omega (arith, low, e))) values names.above_names
