@@ -3,7 +3,7 @@ use Rattle.std.proofs.Common.{◌≡◌, ℕ, List, [], ◌∷◌, Contains, inl
 use Rattle.std.proofs.lemmas.List.Elements.{All-contains, All-from_recursion, Contains-append_cases, Contains-append_left, Contains-append_right}
 use Rattle.std.specs.List.{AllByRecursion}
 use Rattle.history_merge.specs.declared.operation.OpKind.{OpKind}
-use Rattle.history_merge.specs.declared.operation.OpKind.TheVariants.{Deq, Empty, Enq, Not}
+use Rattle.history_merge.specs.declared.operation.OpKind.TheVariants.{Dequeue, DequeueEmpty, Enqueue, EnqueueFailed}
 use Rattle.history_merge.specs.declared.operation.Operation.{Operation}
 use Rattle.history_merge.proofs.Lists.{mapped_from, mapped_to}
 use Rattle.claims.specs.declared.claimed.ClaimLine.{ClaimLine}
@@ -23,25 +23,25 @@ module _ (initial : List ℕ) (operations : List Operation) where
 
   leaves_there : (line : ClaimLine) (v : ℕ) (lines : List ClaimLine) → LeavesAfter initial operations line v lines → AllByRecursion IsThere lines
   leaves_there line v [] leaves = tt
-  leaves_there line v (l ∷ []) leaves = (line_there l (Deq v) leaves.0, tt)
+  leaves_there line v (l ∷ []) leaves = (line_there l (Dequeue v) leaves.0, tt)
   leaves_there line v (l ∷ m ∷ lines) leaves = absurd leaves
 
   cover_there : (empty line : ClaimLine) (lines : List ClaimLine) → LinesCover initial operations empty line lines → AllByRecursion IsThere lines
   cover_there empty line [] covers = absurd covers
-  cover_there empty line (l ∷ []) (v, enters, leaves) = (line_there l (Enq v) enters.0, tt)
-  cover_there empty line (l ∷ m ∷ []) (v, enters, leaves) = (line_there l (Enq v) enters.0, leaves_there empty v (m ∷ []) leaves)
+  cover_there empty line (l ∷ []) (v, enters, leaves) = (line_there l (Enqueue v) enters.0, tt)
+  cover_there empty line (l ∷ m ∷ []) (v, enters, leaves) = (line_there l (Enqueue v) enters.0, leaves_there empty v (m ∷ []) leaves)
   cover_there empty line (l ∷ m ∷ n ∷ lines) (v, enters, did, covers) =
-      (line_there l (Enq v) enters.0, (line_there m (Deq v) did, cover_there empty m (n ∷ lines) covers))
+      (line_there l (Enqueue v) enters.0, (line_there m (Dequeue v) did, cover_there empty m (n ∷ lines) covers))
 
   all_there : (kind : ViolationKind) (lines : List ClaimLine) → Shows initial operations kind lines → AllByRecursion IsThere lines
-  all_there VFresh (l ∷ []) (v, did, not_accepted, not_refused) = (line_there l (Deq v) did, tt)
-  all_there VFresh (l ∷ m ∷ []) (v, did, inl refused) = (line_there l (Deq v) did, (line_there m (Not v) refused, tt))
-  all_there VFresh (l ∷ m ∷ []) (v, did, inr late) = (line_there l (Deq v) did, (line_there m (Enq v) late.0, tt))
+  all_there VFresh (l ∷ []) (v, did, not_accepted, not_refused) = (line_there l (Dequeue v) did, tt)
+  all_there VFresh (l ∷ m ∷ []) (v, did, inl refused) = (line_there l (Dequeue v) did, (line_there m (EnqueueFailed v) refused, tt))
+  all_there VFresh (l ∷ m ∷ []) (v, did, inr late) = (line_there l (Dequeue v) did, (line_there m (Enqueue v) late.0, tt))
   all_there VRepeat (l ∷ m ∷ n ∷ []) (v, put_in, taken, again, in_order) =
-      (line_there l (Enq v) put_in, (line_there m (Deq v) taken, (line_there n (Deq v) again, tt)))
+      (line_there l (Enqueue v) put_in, (line_there m (Dequeue v) taken, (line_there n (Dequeue v) again, tt)))
   all_there VOrd (l ∷ m ∷ n ∷ rest) (v, w, put_in, put_in', taken, before, leaves) =
-      (line_there l (Enq v) put_in, (line_there m (Enq w) put_in', (line_there n (Deq w) taken, leaves_there n v rest leaves)))
-  all_there VWit (l ∷ lines) (found, covers) = (line_there l Empty found, cover_there l l lines covers)
+      (line_there l (Enqueue v) put_in, (line_there m (Enqueue w) put_in', (line_there n (Dequeue w) taken, leaves_there n v rest leaves)))
+  all_there VWit (l ∷ lines) (found, covers) = (line_there l DequeueEmpty found, cover_there l l lines covers)
   all_there _ _ shows = absurd shows
 
   pub each_there : (kind : ViolationKind) (lines : List ClaimLine) → Shows initial operations kind lines → (l : ClaimLine) → Contains lines l → IsThere l

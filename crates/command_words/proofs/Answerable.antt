@@ -232,25 +232,25 @@ wanted false false help missing e none = e
 wanted false true true missing e none = cc
 wanted false true false missing e none = cc
 
-module _ (a : App) (words : List Text) (required : a.top.subcommand_required ≡ true) (helps : a.top.disable_help_subcommand ≡ false)
+module _ (a : App) (args : List Text) (required : a.top.subcommand_required ≡ true) (helps : a.top.disable_help_subcommand ≡ false)
     (all : AllAnswerWell a.subs)
-    (none : built_fault a nothing_held words ≡ []) where
+    (none : built_fault a nothing_held args ≡ []) where
   abbrev last : Walk
-  last = walk a.top.rules (names_of a) nothing_held words
+  last = walk a.top.rules (names_of a) nothing_held args
 
   abbrev has : Bool
   has = is_some (entered a last.stopped)
 
   stops : StopsWell last.stopped
-  stops = walk_keeps (λ (w : Walk). StopsWell w.stopped) a.top (names_of a) (turn_stops a.top (names_of a) helps) words (walk_from nothing_held)
+  stops = walk_keeps (λ (w : Walk). StopsWell w.stopped) a.top (names_of a) (turn_stops a.top (names_of a) helps) args (walk_from nothing_held)
       (first_none _ _ none) tt
 
   below : entered_fault a last.stopped ≡ []
-  below = first_none _ _ (then_none (walk_fault a.top (names_of a) (walk_from nothing_held) words) _ none)
+  below = first_none _ _ (then_none (walk_fault a.top (names_of a) (walk_from nothing_held) args) _ none)
 
   check : check_fault a.top (finished a.top.rules last.held) has ≡ []
   check = then_none _ _ (then_none _ _ (then_none (entered_fault a last.stopped) _
-      (then_none (walk_fault a.top (names_of a) (walk_from nothing_held) words) _ none)))
+      (then_none (walk_fault a.top (names_of a) (walk_from nothing_held) args) _ none)))
 
   has_one : has ≡ true
   has_one = wanted has a.top.subcommand_required (a.top.arg_required_else_help && not
@@ -309,5 +309,5 @@ all_answer_well = (
 )
 
 -- arguments without a fault are a command
-pub answerable : (words : List Text) → fault_of the_program words ≡ [] → IsAnswerable (subcommand_of the_program words)
-answerable words none = answerable_app (built the_program) (argument_words the_program words) refl refl all_answer_well none
+pub answerable : (args : List Text) → fault_of the_program args ≡ [] → IsAnswerable (subcommand_of the_program args)
+answerable args none = answerable_app (built the_program) (argument_words the_program args) refl refl all_answer_well none

@@ -10,5 +10,5 @@ pub of_program : (P : App → Type 0) (test : App → Bool) (a : App) → a ≡ 
 of_program P test a is passes h = subst P is (h (ap test is ∙ passes))
 
 -- the matched subcommand is that of the arguments
-pub met_in : (m : ArgMatches) (words : List Text) (a : App) → a ≡ the_program → HasMatchesOf a words m → subcommand_rows_of m ≡ subcommand_of the_program words
-met_in m words a is h = of_program (λ (b : App). subcommand_rows_of m ≡ subcommand_of b words) is_simple a is refl (λ simple. (h simple).1)
+pub met_in : (m : ArgMatches) (args : List Text) (a : App) → a ≡ the_program → HasMatchesOf a args m → subcommand_rows_of m ≡ subcommand_of the_program args
+met_in m args a is h = of_program (λ (b : App). subcommand_rows_of m ≡ subcommand_of b args) is_simple a is refl (λ simple. (h simple).1)

@@ -20,7 +20,7 @@ use Rattle.command_words.proofs.Rows.{RowsPass}
 -- a property of a walk that each turn without a fault keeps holds at its end
 pub walk_keeps : (P : Walk → Type 0) (s : Shape) (names : Names)
     → ((w : Walk) (word : Text) → turn_fault s names w word ≡ [] → P w → P (walked s.rules names w word))
-    → (words : List Text) (w : Walk) → walk_fault s names w words ≡ [] → P w → P (fold (walked s.rules names) w words)
+    → (args : List Text) (w : Walk) → walk_fault s names w args ≡ [] → P w → P (fold (walked s.rules names) w args)
 unfolding walk_fault
 walk_keeps P s names f [] w e p = p
 walk_keeps P s names f (x ∷ xs) w e p = walk_keeps P s names f xs (walked s.rules names w x) (then_none _ _ e) (f w x (first_none _ _ e) p)
@@ -207,8 +207,8 @@ module _ (test : Text → Text → Bool) (s : Shape) (names : Names) (well : Fin
       go None e = step_passes met.1 word w met.0 (then_none _ _ e) (word_passes w.is_trailing w.waiting w.position word w.held (first_none _ _ e) p)
 
   -- the rows after all arguments, once the pending one is used
-  pub walk_passes : (words : List Text) (w : Walk) → walk_fault s names w words ≡ [] → RowsPass test w.held.rows
-      → settle_fault s.rules s.args_override_self (fold (walked s.rules names) w words).held ≡ []
-      → RowsPass test (settled s.rules (fold (walked s.rules names) w words).held).rows
-  walk_passes words w e p settle = settled_passes test s.rules well s.args_override_self (fold (walked s.rules names) w words).held settle
-      (walk_keeps (λ (x : Walk). RowsPass test x.held.rows) s names turn_passes words w e p)
+  pub walk_passes : (args : List Text) (w : Walk) → walk_fault s names w args ≡ [] → RowsPass test w.held.rows
+      → settle_fault s.rules s.args_override_self (fold (walked s.rules names) w args).held ≡ []
+      → RowsPass test (settled s.rules (fold (walked s.rules names) w args).held).rows
+  walk_passes args w e p settle = settled_passes test s.rules well s.args_override_self (fold (walked s.rules names) w args).held settle
+      (walk_keeps (λ (x : Walk). RowsPass test x.held.rows) s names turn_passes args w e p)

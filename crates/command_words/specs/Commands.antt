@@ -28,7 +28,7 @@ the_program = record {
 
 -- the usage error, or the help that was asked for; none for a valid command line
 abbrev pub faults_in : List Text → Kinds
-faults_in words = fault_of the_program words
+faults_in args = fault_of the_program args
 
 -- the request of a command; those that judge have a condition
 pub data Request : Type 0 where
@@ -63,7 +63,7 @@ request_of_subcommand = option_and_then (λ p. request_named p.0 p.1)
 
 -- the request of the arguments
 abbrev pub request_in : List Text → Option Request
-request_in words = request_of_subcommand (subcommand_of the_program words)
+request_in args = request_of_subcommand (subcommand_of the_program args)
 
 -- the matched subcommand has a flag for a quiet answer, which was given
 abbrev pub is_quiet_subcommand : Option (Text × List Row) → Bool
@@ -71,7 +71,7 @@ is_quiet_subcommand = λ met. option_map_or (λ p. is_quiet p.1) met false
 
 -- the subcommand of the arguments has a flag for a quiet answer, which was given
 abbrev pub is_quiet_in : List Text → Bool
-is_quiet_in words = is_quiet_subcommand (subcommand_of the_program words)
+is_quiet_in args = is_quiet_subcommand (subcommand_of the_program args)
 
 -- the request of a value of the program
 abbrev pub request_of : Task → Request

@@ -7,5 +7,5 @@ ghost use Rattle.command_words.specs.Commands.{IsInRange, faults_in, request_in}
 ///
 /// So each list of arguments is a command or has a fault.
 pub fn words_without_a_fault_are_a_command()
-    ensures { (words : List Text) → faults_in words ≡ [] → IsSomeAnd (request_in words) IsInRange }
+    ensures { (args : List Text) → faults_in args ≡ [] → IsSomeAnd (request_in args) IsInRange }
 {}

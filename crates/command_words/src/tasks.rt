@@ -58,15 +58,15 @@ pub struct Order<'a> {
 /// A mistake in the arguments is an error of status 2 by clap's `exit_code`. Arguments that ask for a help are one of
 /// status 0, whose text is the help. The kind `OutOfMemory` comes only if memory ran out. A number out of the range
 /// of its option is a mistake of kind `ValueValidation`.
-pub fn order_in<'a, T: AsStr>(alloc: Global, words: &'a [T]) -> Result<Order<'a>, Error>
-    ensures ok { OnOk result (faults_in (map T.text words.entry.now) ≡ []) }
-    ensures task { IfOk result (λ order. request_in (map T.text words.entry.now) ≡ Some (request_of order.task)) }
-    ensures quiet { IfOk result (λ order. order.is_quiet ≡ is_quiet_in (map T.text words.entry.now)) }
+pub fn order_in<'a, T: AsStr>(alloc: Global, args: &'a [T]) -> Result<Order<'a>, Error>
+    ensures ok { OnOk result (faults_in (map T.text args.entry.now) ≡ []) }
+    ensures task { IfOk result (λ order. request_in (map T.text args.entry.now) ≡ Some (request_of order.task)) }
+    ensures quiet { IfOk result (λ order. order.is_quiet ≡ is_quiet_in (map T.text args.entry.now)) }
     ensures ranges { IfOk result (λ order. IsInRange (request_of order.task)) }
-    ensures err { IfErr result (HasKind (faults_in (map T.text words.entry.now))) }
+    ensures err { IfErr result (HasKind (faults_in (map T.text args.entry.now))) }
 {
     let command = the_command(alloc)?;
-    match command.try_get_matches_from(words) {
+    match command.try_get_matches_from(args) {
         Ok(matches) => {
             let task = task_of(&matches);
             let is_quiet = is_quiet_of(&matches);

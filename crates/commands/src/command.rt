@@ -41,7 +41,7 @@ use std::thread::Threads;
 /// and so for the queue.
 pub fn run_command<'a, R, T, S, W, E>(
     rt: &R,
-    words: &'a [T],
+    args: &'a [T],
     reader: S,
     writer: &mut W,
     errors: &mut E,
@@ -58,19 +58,19 @@ where
 
     // The arguments are a command that reads: the answer to some input that the source may give is printed, the known one
     // if the source is known; or that memory ran out for the arguments.
-    ensures reads { (request : Request) → faults_in (map T.text words.entry.now) ≡ [] → request_in (map T.text words.entry.now) ≡ Some request
-        → OfInput (S.ahead reader) (λ input. PrintsOneOf (is_quiet_in (map T.text words.entry.now)) (AnswersOrNoMemory (AnswersOf request) input)
+    ensures reads { (request : Request) → faults_in (map T.text args.entry.now) ≡ [] → request_in (map T.text args.entry.now) ≡ Some request
+        → OfInput (S.ahead reader) (λ input. PrintsOneOf (is_quiet_in (map T.text args.entry.now)) (AnswersOrNoMemory (AnswersOf request) input)
         (W.contents writer.old) (W.contents writer.new) (W.has_refused writer.new) result) }
 
     // The arguments are `stress`: the answer of a run on the shelf is printed.
-    ensures stresses { (settings : Settings) → faults_in (map T.text words.entry.now) ≡ [] → request_in (map T.text words.entry.now) ≡ Some (stress settings)
-        → PrintsOneOf (is_quiet_in (map T.text words.entry.now))
+    ensures stresses { (settings : Settings) → faults_in (map T.text args.entry.now) ≡ [] → request_in (map T.text args.entry.now) ≡ Some (stress settings)
+        → PrintsOneOf (is_quiet_in (map T.text args.entry.now))
         (AnswersOrNoMemory (Stresses (λ s. s.name.now) (λ s. may s.queue) (λ s. may_preload s.queue) shelf.now) settings)
         (W.contents writer.old) (W.contents writer.new) (W.has_refused writer.new) result }
 
     // Other arguments: a text about the use of the program is printed.
-    ensures usage { (faults_in (map T.text words.entry.now) ≢ [])
-        → ExplainsUse (faults_in (map T.text words.entry.now)) (W.contents writer.old) (W.contents writer.new) (W.has_refused writer.new) result }
+    ensures usage { (faults_in (map T.text args.entry.now) ≢ [])
+        → ExplainsUse (faults_in (map T.text args.entry.now)) (W.contents writer.old) (W.contents writer.new) (W.has_refused writer.new) result }
 
     // The writer is written to and then flushed once, or it refuses and is asked for nothing more.
     ensures asked { WritesAndFlushes W.transition (W.has_refused writer.new) writer.old writer.new }
@@ -82,15 +82,15 @@ where
     ensures silent { terminals.input ≡ false → terminals.output ≡ false → result ≤ 1 → errors.new ≡ errors.old }
 
     // With status 2 or 3 of a command it gets a message of one or two lines.
-    ensures said { faults_in (map T.text words.entry.now) ≡ [] → terminals.input ≡ false → terminals.output ≡ false
+    ensures said { faults_in (map T.text args.entry.now) ≡ [] → terminals.input ≡ false → terminals.output ≡ false
         → E.has_refused errors.old ≡ false → 2 ≤ result
         → SaysMessage (E.contents errors.old) (E.contents errors.new) (E.has_refused errors.new) }
 {
-    let order = match order_in(rt.alloc(), words) {
+    let order = match order_in(rt.alloc(), args) {
         Ok(order) => order,
         Err(error) => {
             let status = explain(rt.alloc(), &error, writer);
-            say_mistake(rt.alloc(), words, &error, status, terminals, errors);
+            say_mistake(rt.alloc(), args, &error, status, terminals, errors);
             return status;
         }
     };
@@ -123,7 +123,7 @@ pub struct Exit<O, E> {
 /// reader of the output has left, standard error gets nothing.
 pub fn run_over<'a, R, T, I, O, E>(
     rt: &R,
-    words: &'a [T],
+    args: &'a [T],
     input: I,
     output: O,
     errors: E,
@@ -138,26 +138,26 @@ where
     E: Write + Drop,
 
     // The answer to the input is printed, or that memory ran out for the arguments.
-    ensures reads { (request : Request) → faults_in (map T.text words.entry.now) ≡ [] → request_in (map T.text words.entry.now) ≡ Some request
-        → OfInput (known_of (I.remaining input)) (λ read. Behind (λ new refused. PrintsOneOf (is_quiet_in (map T.text words.entry.now))
+    ensures reads { (request : Request) → faults_in (map T.text args.entry.now) ≡ [] → request_in (map T.text args.entry.now) ≡ Some request
+        → OfInput (known_of (I.remaining input)) (λ read. Behind (λ new refused. PrintsOneOf (is_quiet_in (map T.text args.entry.now))
         (AnswersOrNoMemory (AnswersOf request) read) (O.contents output) new refused result.status) (O.contents result.output)) }
 
     // The answer of a run on the shelf is printed.
-    ensures stresses { (settings : Settings) → faults_in (map T.text words.entry.now) ≡ [] → request_in (map T.text words.entry.now) ≡ Some (stress settings)
-        → Behind (λ new refused. PrintsOneOf (is_quiet_in (map T.text words.entry.now))
+    ensures stresses { (settings : Settings) → faults_in (map T.text args.entry.now) ≡ [] → request_in (map T.text args.entry.now) ≡ Some (stress settings)
+        → Behind (λ new refused. PrintsOneOf (is_quiet_in (map T.text args.entry.now))
         (AnswersOrNoMemory (Stresses (λ s. s.name.now) (λ s. may s.queue) (λ s. may_preload s.queue) shelf.now) settings)
         (O.contents output) new refused result.status) (O.contents result.output) }
 
     // Other arguments: a text about the use of the program is printed.
-    ensures usage { (faults_in (map T.text words.entry.now) ≢ [])
-        → Behind (λ new refused. ExplainsUse (faults_in (map T.text words.entry.now)) (O.contents output) new refused result.status)
+    ensures usage { (faults_in (map T.text args.entry.now) ≢ [])
+        → Behind (λ new refused. ExplainsUse (faults_in (map T.text args.entry.now)) (O.contents output) new refused result.status)
         (O.contents result.output) }
 
     // With status 0 or 1 standard error gets nothing, unless a terminal is there.
     ensures silent { terminals.input ≡ false → terminals.output ≡ false → result.status ≤ 1 → result.errors ≡ errors }
 
     // With status 2 or 3 of a command it gets a message of one or two lines, or a prefix of one.
-    ensures said { faults_in (map T.text words.entry.now) ≡ [] → terminals.input ≡ false → terminals.output ≡ false → 2 ≤ result.status
+    ensures said { faults_in (map T.text args.entry.now) ≡ [] → terminals.input ≡ false → terminals.output ≡ false → 2 ≤ result.status
         → (refused : Bool) × SaysMessage (E.contents errors) (E.contents result.errors) refused }
 {
     let is_broken = AtomicBool::new(false);
@@ -171,7 +171,7 @@ where
     });
     let status = run_command(
         rt,
-        words,
+        args,
         Watched::new(input),
         &mut output,
         &mut errors,

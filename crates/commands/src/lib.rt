@@ -1,6 +1,7 @@
 //! The commands over any reader, writer and shelf of queues: the program without its `main`.
 #![tactic(auto)]
 
+mod args;
 mod command;
 mod complete;
 mod draw;
@@ -19,8 +20,8 @@ mod sim;
 mod stderr;
 mod stress;
 mod texts;
-mod words;
 
+pub use args::{StartFault, args_of, print_start_fault};
 pub use command::{Exit, run_command, run_over};
 pub use laws::{
     completion_decides, conversion_keeps_answers, every_answer_is_evidence,
@@ -35,4 +36,3 @@ pub use texts::{
     check_text, complete_text, draw_text, judge_gathered, shrink_text, stats_text, text_of_outcome,
     verify_text,
 };
-pub use words::{StartFault, print_start_fault, words_of};

@@ -204,8 +204,8 @@ fn is_operand(word: &str) -> bool {
 }
 
 /// Returns the complaint about a file name after a command that reads standard input, if there is one.
-fn named_file<'a, T: AsStr>(words: &'a [T]) -> Option<Complaint<'a>> {
-    let (_program, others) = words.split_first()?;
+fn named_file<'a, T: AsStr>(args: &'a [T]) -> Option<Complaint<'a>> {
+    let (_program, others) = args.split_first()?;
     let (command, operands) = others.split_first()?;
     let command = command.as_str();
     let reads = reads_of(command)?;
@@ -216,7 +216,7 @@ fn named_file<'a, T: AsStr>(words: &'a [T]) -> Option<Complaint<'a>> {
 /// Writes what is wrong with arguments that are no command.
 pub(crate) fn say_mistake<T: AsStr, E: TextSink>(
     alloc: Global,
-    words: &[T],
+    args: &[T],
     error: &Error,
     status: u8,
     terminals: Terminals,
@@ -228,7 +228,7 @@ pub(crate) fn say_mistake<T: AsStr, E: TextSink>(
 {
     match status {
         0 | 1 => {}
-        2 => say_mistaken_words(alloc, words, error, terminals, errors),
+        2 => say_mistaken_words(alloc, args, error, terminals, errors),
         _ => {
             let complaint = match error.kind() {
                 ErrorKind::OutOfMemory => Complaint::Memory,
@@ -243,7 +243,7 @@ pub(crate) fn say_mistake<T: AsStr, E: TextSink>(
 /// if its name was given.
 fn say_mistaken_words<T: AsStr, E: TextSink>(
     alloc: Global,
-    words: &[T],
+    args: &[T],
     error: &Error,
     terminals: Terminals,
     errors: &mut E,
@@ -252,7 +252,7 @@ fn say_mistaken_words<T: AsStr, E: TextSink>(
         tell_made(&format!(in alloc; "{error}"), errors);
     }
     if error.kind() == ErrorKind::UnknownArgument {
-        if let Some(complaint) = named_file(words) {
+        if let Some(complaint) = named_file(args) {
             tell_made(&sentence(alloc, &complaint), errors);
         }
     }

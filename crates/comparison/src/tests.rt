@@ -32,7 +32,7 @@ const ENOUGH: u32 = 15;
 
 /// The number of histories with each answer.
 #[derive(Clone, Copy, Debug, Default)]
-struct Met {
+struct Tally {
     legal: u32,
     fresh: u32,
     repeat: u32,
@@ -40,7 +40,7 @@ struct Met {
     witness: u32,
 }
 
-impl Met {
+impl Tally {
     fn count(&mut self, kind: Option<ViolationKind>) {
         match kind {
             None => self.legal = self.legal.saturating_add(1),
@@ -64,7 +64,7 @@ fn compare_seed(rt: &impl AllocGlobal, seed: u64, sort: Sort) -> Result<Option<C
 }
 
 /// Compares the answers about `HISTORIES` histories of this sort, and counts them by kind.
-fn compare_all(rt: &(impl Abort + AllocGlobal), sort: Sort, met: &mut Met) -> Result<(), Fail> {
+fn compare_all(rt: &(impl Abort + AllocGlobal), sort: Sort, tally: &mut Tally) -> Result<(), Fail> {
     let mut compared = 0u32;
     for seed in 0..SEEDS {
         if compared == HISTORIES {
@@ -72,7 +72,7 @@ fn compare_all(rt: &(impl Abort + AllocGlobal), sort: Sort, met: &mut Met) -> Re
         }
         if let Some((kind, difference)) = compare_seed(rt, seed, sort)? {
             assert!(rt; difference.is_none(), "{difference:?} of seed {seed}");
-            met.count(kind);
+            tally.count(kind);
             compared = compared.saturating_add(1);
         }
     }
@@ -82,32 +82,38 @@ fn compare_all(rt: &(impl Abort + AllocGlobal), sort: Sort, met: &mut Met) -> Re
 
 /// Compares histories with these shares of answers that the queue didn't give, of a queue with `first` initial
 /// values, and counts them.
-fn met_in(rt: &(impl Abort + AllocGlobal), lies: &[u64], first: u8) -> Result<Met, Fail> {
-    let mut met = Met::default();
+fn tally_of(rt: &(impl Abort + AllocGlobal), lies: &[u64], first: u8) -> Result<Tally, Fail> {
+    let mut tally = Tally::default();
     for lies in lies {
-        compare_all(rt, Sort { lies: *lies, first }, &mut met)?;
+        compare_all(rt, Sort { lies: *lies, first }, &mut tally)?;
     }
-    Ok(met)
+    Ok(tally)
 }
 
 /// Returns whether there were enough histories of each kind.
-fn are_enough(met: Met) -> bool {
-    [met.legal, met.fresh, met.repeat, met.order, met.witness]
-        .iter()
-        .all(|count| *count >= ENOUGH)
+fn are_enough(tally: Tally) -> bool {
+    [
+        tally.legal,
+        tally.fresh,
+        tally.repeat,
+        tally.order,
+        tally.witness,
+    ]
+    .iter()
+    .all(|count| *count >= ENOUGH)
 }
 
 #[test]
 fn sweeps_answer_as_plain_scans(rt: HostRuntime) -> Result<(), Fail> {
-    let met = met_in(&rt, &[1, 2, 3, 4, 5], 0)?;
-    assert!(rt; are_enough(met), "{met:?}");
+    let tally = tally_of(&rt, &[1, 2, 3, 4, 5], 0)?;
+    assert!(rt; are_enough(tally), "{tally:?}");
     Ok(())
 }
 
 #[test]
 fn sweeps_answer_as_plain_scans_behind_initial_values(rt: HostRuntime) -> Result<(), Fail> {
-    let met = met_in(&rt, &[1, 2], 3)?;
-    assert!(rt; are_enough(met), "{met:?}");
+    let tally = tally_of(&rt, &[1, 2], 3)?;
+    assert!(rt; are_enough(tally), "{tally:?}");
     Ok(())
 }
 

@@ -17,7 +17,7 @@ use Rattle.event_records.specs.Projection.{projection}
 use Rattle.event_records.specs.Turns.{answers, is_call, TicketsRise}
 use Rattle.history_merge.specs.declared.operation.Operation.{Operation}
 use Rattle.history_merge.specs.declared.operation.OpKind.{OpKind}
-use Rattle.history_merge.specs.declared.operation.OpKind.TheVariants.{Enq, Deq, Empty, Not}
+use Rattle.history_merge.specs.declared.operation.OpKind.TheVariants.{Enqueue, Dequeue, DequeueEmpty, EnqueueFailed}
 use Rattle.history_merge.specs.Complete.{called_value}
 use Rattle.history_merge.specs.Faults.{pending_call}
 use Rattle.history_merge.specs.Initial.{enqueues_from, initial_enqueues, later_by}
@@ -47,22 +47,22 @@ call_before (call ∷ answer ∷ before) e later turns ret =
     (found.0, last_or-some (Some answer) before found.0 found.1, found.2)
 
 kind_of_answer : (call answer : What) → answers call answer ≡ true → (k : OpKind) × (kind_of call answer ≡ Some k)
-kind_of_answer (CallEnq v) RetEnq is = (Enq v, refl)
-kind_of_answer (CallEnq v) RetNot is = (Not v, refl)
-kind_of_answer CallDeq (RetDeq v) is = (Deq v, refl)
-kind_of_answer CallDeq RetEmpty is = (Empty, refl)
+kind_of_answer (CallEnq v) RetEnq is = (Enqueue v, refl)
+kind_of_answer (CallEnq v) RetNot is = (EnqueueFailed v, refl)
+kind_of_answer CallDeq (RetDeq v) is = (Dequeue v, refl)
+kind_of_answer CallDeq RetEmpty is = (DequeueEmpty, refl)
 kind_of_answer _ _ is = cc
 
-kind_of_dequeue : (call : What) (v : ℕ) (k : OpKind) → kind_of call (RetDeq v) ≡ Some k → k ≡ Deq v
-kind_of_dequeue CallDeq v k is = let e : Some (Deq v) ≡ Some k = is in cc
+kind_of_dequeue : (call : What) (v : ℕ) (k : OpKind) → kind_of call (RetDeq v) ≡ Some k → k ≡ Dequeue v
+kind_of_dequeue CallDeq v k is = let e : Some (Dequeue v) ≡ Some k = is in cc
 kind_of_dequeue (CallEnq u) v k is = cc
 kind_of_dequeue RetEnq v k is = cc
 kind_of_dequeue RetNot v k is = cc
 kind_of_dequeue (RetDeq u) v k is = cc
 kind_of_dequeue RetEmpty v k is = cc
 
-answer_of_dequeue : (call answer : What) (v : ℕ) → kind_of call answer ≡ Some (Deq v) → answer ≡ RetDeq v
-answer_of_dequeue CallDeq (RetDeq w) v is = let e : Some (Deq w) ≡ Some (Deq v) = is in cc
+answer_of_dequeue : (call answer : What) (v : ℕ) → kind_of call answer ≡ Some (Dequeue v) → answer ≡ RetDeq v
+answer_of_dequeue CallDeq (RetDeq w) v is = let e : Some (Dequeue w) ≡ Some (Dequeue v) = is in cc
 answer_of_dequeue CallDeq RetEmpty v is = cc
 answer_of_dequeue CallDeq (CallEnq w) v is = cc
 answer_of_dequeue CallDeq CallDeq v is = cc
@@ -79,8 +79,8 @@ answer_of_dequeue RetNot answer v is = cc
 answer_of_dequeue (RetDeq u) answer v is = cc
 answer_of_dequeue RetEmpty answer v is = cc
 
-answer_of_enqueue : (call answer : What) (v : ℕ) → kind_of call answer ≡ Some (Enq v) → (call ≡ CallEnq v) × (answer ≡ RetEnq)
-answer_of_enqueue (CallEnq u) RetEnq v is = let e : Some (Enq u) ≡ Some (Enq v) = is in (let f : u ≡ v = cc in ap (λ w. CallEnq w) f, refl)
+answer_of_enqueue : (call answer : What) (v : ℕ) → kind_of call answer ≡ Some (Enqueue v) → (call ≡ CallEnq v) × (answer ≡ RetEnq)
+answer_of_enqueue (CallEnq u) RetEnq v is = let e : Some (Enqueue u) ≡ Some (Enqueue v) = is in (let f : u ≡ v = cc in ap (λ w. CallEnq w) f, refl)
 answer_of_enqueue (CallEnq u) RetNot v is = cc
 answer_of_enqueue (CallEnq u) (RetDeq w) v is = cc
 answer_of_enqueue (CallEnq u) RetEmpty v is = cc
@@ -120,7 +120,7 @@ module _ (initial : List ℕ) (events : List Event) (history : IsHistoryFrom ini
           (found.0, o, made, subst (λ (es : List Event). Contains (operations_of es) o) (sym whole) (operations_keep (before ++ r ∷ []) later o there))
 
   -- the given values are those that operations dequeued
-  pub given_by : (v : ℕ) → is_given events v ≡ true → (o : Operation) × Contains (operations_of events) o × (o.kind ≡ Deq v)
+  pub given_by : (v : ℕ) → is_given events v ≡ true → (o : Operation) × Contains (operations_of events) o × (o.kind ≡ Dequeue v)
   given_by v is =
       let any = Any-from_list_any (λ w. nat_eq w v) (given_values events) is in
       let r = kept (λ (e : Event). given_value e.what) events any.1 (any.0, any.2, any.3) in
@@ -133,7 +133,7 @@ module _ (initial : List ℕ) (events : List Event) (history : IsHistoryFrom ini
       gives (RetDeq u) w e = cc
       gives _ w e = cc
 
-      dequeued : (call r : Event) (o : Operation) (v : ℕ) → operation_of call (Some r) ≡ Some o → r.what ≡ RetDeq v → o.kind ≡ Deq v
+      dequeued : (call r : Event) (o : Operation) (v : ℕ) → operation_of call (Some r) ≡ Some o → r.what ≡ RetDeq v → o.kind ≡ Dequeue v
       dequeued call r o v made what =
           let of = made_of call (Some r) o made in
           let same : r ≡ of.0 = let e : Some r ≡ Some of.0 = of.1 in cc in
@@ -141,7 +141,7 @@ module _ (initial : List ℕ) (events : List Event) (history : IsHistoryFrom ini
           subst (λ (w : What). kind_of call.what w ≡ Some o.kind) (ap (λ (e : Event). e.what) (sym same) ∙ what) of.2.kind in
           kind_of_dequeue call.what v o.kind kind
 
-  pub given_value_is : (v : ℕ) (o : Operation) → Contains (operations_of events) o → o.kind ≡ Deq v → is_given events v ≡ true
+  pub given_value_is : (v : ℕ) (o : Operation) → Contains (operations_of events) o → o.kind ≡ Dequeue v → is_given events v ≡ true
   given_value_is v o among is =
       let t = traced events o among in
       let what = answer_of_dequeue t.call.what t.answer.what v (t.made.kind ∙ ap (λ k. Some k) is) in
@@ -181,7 +181,7 @@ taken_made before e o is = by_what e.what refl is
 
 -- these are operations of the history
 pub taken_in : (before later : List Event) (o : Operation) → Contains (taken_from before later) o
-    → Contains (operations_of (before ++ later)) o × ((v : ℕ) × (o.kind ≡ Enq v)) × ((e : Event) × Contains later e × (o.ret ≡ e.ticket))
+    → Contains (operations_of (before ++ later)) o × ((v : ℕ) × (o.kind ≡ Enqueue v)) × ((e : Event) × Contains later e × (o.ret ≡ e.ticket))
 taken_in before [] o among = absurd (not_in_none o among)
 taken_in before (e ∷ later) o among =
     let parts : (before ++ e ∷ []) ++ later ≡ before ++ e ∷ later = append_assoc before (e ∷ []) later in
@@ -200,9 +200,9 @@ taken_in before (e ∷ later) o among =
           (subst (λ (es : List Event). Contains (operations_of es) o) parts found.0, found.1, (found.2.0, one_deeper e later found.2.0 found.2.1, found.2.2))
     ]
   where
-    enqueued : (call answer : What) (k : OpKind) → answer ≡ RetEnq → kind_of call answer ≡ Some k → (v : ℕ) × (k ≡ Enq v)
+    enqueued : (call answer : What) (k : OpKind) → answer ≡ RetEnq → kind_of call answer ≡ Some k → (v : ℕ) × (k ≡ Enqueue v)
     enqueued (CallEnq v) answer k is made = let e : kind_of (CallEnq v) RetEnq ≡ Some k = subst (λ w. kind_of (CallEnq v) w ≡ Some k) is made in
-        let f : Some (Enq v) ≡ Some k = e in (v, cc)
+        let f : Some (Enqueue v) ≡ Some k = e in (v, cc)
     enqueued CallDeq answer k is made = let e : kind_of CallDeq RetEnq ≡ Some k = subst (λ w. kind_of CallDeq w ≡ Some k) is made in let f : None ≡ Some k = e in cc
     enqueued RetEnq answer k is made = cc
     enqueued RetNot answer k is made = cc
@@ -210,7 +210,7 @@ taken_in before (e ∷ later) o among =
     enqueued RetEmpty answer k is made = cc
 
 -- each successful enqueue is one of these
-pub taken_all : (before later : List Event) (o : Operation) (v : ℕ) → Contains (operations_of (before ++ later)) o → o.kind ≡ Enq v
+pub taken_all : (before later : List Event) (o : Operation) (v : ℕ) → Contains (operations_of (before ++ later)) o → o.kind ≡ Enqueue v
     → Contains (operations_of before) o ⊎ Contains (taken_from before later) o
 taken_all before [] o v among is = inl (subst (λ (es : List Event). Contains (operations_of es) o) (append-nil before) among)
 taken_all before (e ∷ later) o v among is =
@@ -237,7 +237,7 @@ taken_all before (e ∷ later) o v among is =
 
 -- the value that an operation enqueued
 abbrev pub value_in : OpKind → ℕ
-value_in (Enq v) = v
+value_in (Enqueue v) = v
 value_in _ = 0
 
 abbrev pub value_of : Operation → ℕ

@@ -17,7 +17,7 @@ use Rattle.event_records.specs.declared.limits.TheConstants.{MAX_INITIAL, MAX_TI
 use Rattle.event_records.specs.Turns.{answers, TicketsRise}
 use Rattle.history_merge.specs.declared.operation.Operation.{Operation}
 use Rattle.history_merge.specs.declared.operation.OpKind.{OpKind}
-use Rattle.history_merge.specs.declared.operation.OpKind.TheVariants.{Enq, Deq, Empty, Not}
+use Rattle.history_merge.specs.declared.operation.OpKind.TheVariants.{Enqueue, Dequeue, DequeueEmpty, EnqueueFailed}
 use Rattle.history_merge.specs.Initial.{enqueues_from, initial_enqueues, later_by}
 use Rattle.history_merge.specs.Inner.Timeline.{timeline}
 use Rattle.history_merge.specs.Operations.{Did, kind_of, NoneDid, operation_of, operations_of}
@@ -55,10 +55,10 @@ later_there : (initial : List ℕ) (operations : List Operation) (p : Operation)
 later_there initial operations p among =
     Contains-append_right (initial_enqueues initial) (map (later_by ORIGIN) operations) (later_by ORIGIN p) (mapped_to (later_by ORIGIN) operations p among)
 
-enqueue_in : (n : ℕ) (values : List ℕ) (o : Operation) → Contains (enqueues_from n values) o → ((v : ℕ) × (o.kind ≡ Enq v)) × (o.ret < n + length values)
+enqueue_in : (n : ℕ) (values : List ℕ) (o : Operation) → Contains (enqueues_from n values) o → ((v : ℕ) × (o.kind ≡ Enqueue v)) × (o.ret < n + length values)
 enqueue_in n [] o among = absurd (not_in_none o among)
 enqueue_in n (v ∷ values) o among =
-    let first : Operation = record { call = n; ret = n; thread = 0; kind = Enq v } in
+    let first : Operation = record { call = n; ret = n; thread = 0; kind = Enqueue v } in
     elim (contains_cons first (enqueues_from (n + 1) values) o among) [
       | inl here ↦
           let ret : n ≡ o.ret = ap (λ (x : Operation). x.ret) here in
@@ -197,17 +197,17 @@ module _ (initial : List ℕ) (events : List Event) (history : IsHistoryFrom ini
       by_call call.what of.0.what p.kind refl of.2.kind (ap (λ n. n + ORIGIN) of.2.called)
     where
       by_call : (w a : What) (k : OpKind) → call.what ≡ w → kind_of w a ≡ Some k → p.call + ORIGIN ≡ call.ticket + ORIGIN
-          → ((v : ℕ) × Enqueuing (p.call + ORIGIN) v × ((k ≡ Enq v) ⊎ (k ≡ Not v)))
-          ⊎ (Contains dequeuing (p.call + ORIGIN) × (((v : ℕ) × (k ≡ Deq v)) ⊎ (k ≡ Empty)))
-      by_call (CallEnq v) RetEnq k what is time = let e : Some (Enq v) ≡ Some k = is in inl (v, (call, among, pending, what, sym time), inl cc)
-      by_call (CallEnq v) RetNot k what is time = let e : Some (Not v) ≡ Some k = is in inl (v, (call, among, pending, what, sym time), inr cc)
+          → ((v : ℕ) × Enqueuing (p.call + ORIGIN) v × ((k ≡ Enqueue v) ⊎ (k ≡ EnqueueFailed v)))
+          ⊎ (Contains dequeuing (p.call + ORIGIN) × (((v : ℕ) × (k ≡ Dequeue v)) ⊎ (k ≡ DequeueEmpty)))
+      by_call (CallEnq v) RetEnq k what is time = let e : Some (Enqueue v) ≡ Some k = is in inl (v, (call, among, pending, what, sym time), inl cc)
+      by_call (CallEnq v) RetNot k what is time = let e : Some (EnqueueFailed v) ≡ Some k = is in inl (v, (call, among, pending, what, sym time), inr cc)
       by_call (CallEnq v) (RetDeq w) k what is time = cc
       by_call (CallEnq v) RetEmpty k what is time = cc
       by_call (CallEnq v) (CallEnq w) k what is time = cc
       by_call (CallEnq v) CallDeq k what is time = cc
-      by_call CallDeq (RetDeq v) k what is time = let e : Some (Deq v) ≡ Some k = is in
+      by_call CallDeq (RetDeq v) k what is time = let e : Some (Dequeue v) ≡ Some k = is in
           inr (subst (Contains dequeuing) (sym time) (mapped_to time_of_call dequeue_calls call (dequeue_pends call among pending what)), inl (v, cc))
-      by_call CallDeq RetEmpty k what is time = let e : Some Empty ≡ Some k = is in
+      by_call CallDeq RetEmpty k what is time = let e : Some DequeueEmpty ≡ Some k = is in
           inr (subst (Contains dequeuing) (sym time) (mapped_to time_of_call dequeue_calls call (dequeue_pends call among pending what)), inr cc)
       by_call CallDeq (CallEnq w) k what is time = cc
       by_call CallDeq CallDeq k what is time = cc
@@ -320,18 +320,18 @@ module _ (initial : List ℕ) (events : List Event) (history : IsHistoryFrom ini
     left = left_enqueues initial events
 
     -- if a dequeue by time has this value, a dequeue gave it
-    given_if_done : (d : Operation) (v : ℕ) → Did done d (Deq v) → is_given events v ≡ true
+    given_if_done : (d : Operation) (v : ℕ) → Did done d (Dequeue v) → is_given events v ≡ true
     given_if_done d v did = elim (in_timeline initial (operations_of events) d did.0) [
-      | inl first ↦ let kind = (enqueue_in (ORIGIN - length initial) initial d first).0 in let clash : Enq kind.0 ≡ Deq v = sym kind.1 ∙ did.1 in cc
+      | inl first ↦ let kind = (enqueue_in (ORIGIN - length initial) initial d first).0 in let clash : Enqueue kind.0 ≡ Dequeue v = sym kind.1 ∙ did.1 in cc
       | inr (q, there, is) ↦ given_value_is initial events history v q there (ap (λ (o : Operation). o.kind) is ∙ did.1)
     ]
 
-    done_if_given : (v : ℕ) → is_given events v ≡ true → (d : Operation) × Did done d (Deq v)
+    done_if_given : (v : ℕ) → is_given events v ≡ true → (d : Operation) × Did done d (Dequeue v)
     done_if_given v given =
         let q = given_by initial events history v given in
         (later_by ORIGIN q.0, (later_there initial (operations_of events) q.0 q.1, q.2))
 
-    in_left : (x : Operation) → Contains left x → (v : ℕ) × Did done x (Enq v) × (is_given events v ≡ false)
+    in_left : (x : Operation) → Contains left x → (v : ℕ) × Did done x (Enqueue v) × (is_given events v ≡ false)
     in_left x among =
         let there = passed_filter (λ o. not (is_given events (value_of o))) (initial_enqueues initial ++ map (later_by ORIGIN) (taken_from [] events)) x among in
         elim (Contains-append_cases (initial_enqueues initial) (map (later_by ORIGIN) (taken_from [] events)) x there.0) [
@@ -341,7 +341,7 @@ module _ (initial : List ℕ) (events : List Event) (history : IsHistoryFrom ini
           | inr later ↦
               let p = mapped_from (later_by ORIGIN) (taken_from [] events) x later in
               let taken = taken_in [] events p.0 p.1 in
-              let kind : x.kind ≡ Enq taken.1.0 = ap (λ (o : Operation). o.kind) (sym p.2) ∙ taken.1.1 in
+              let kind : x.kind ≡ Enqueue taken.1.0 = ap (λ (o : Operation). o.kind) (sym p.2) ∙ taken.1.1 in
               (taken.1.0, (subst (Contains done) p.2 (later_there initial (operations_of events) p.0 taken.0), kind), not_given x taken.1.0 kind there.1)
         ]
       where
@@ -349,28 +349,28 @@ module _ (initial : List ℕ) (events : List Event) (history : IsHistoryFrom ini
         false_of_not true is = cc
         false_of_not false is = refl
 
-        not_given : (x : Operation) (v : ℕ) → x.kind ≡ Enq v → not (is_given events (value_of x)) ≡ true → is_given events v ≡ false
+        not_given : (x : Operation) (v : ℕ) → x.kind ≡ Enqueue v → not (is_given events (value_of x)) ≡ true → is_given events v ≡ false
         not_given x v kind is = ap (is_given events) (sym (ap value_in kind)) ∙ false_of_not (is_given events (value_of x)) is
 
-    none_dequeued : (v : ℕ) → is_given events v ≡ false → NoneDid done (Deq v)
+    none_dequeued : (v : ℕ) → is_given events v ≡ false → NoneDid done (Dequeue v)
     none_dequeued v not_given o among kind = let clash : true ≡ false = sym (given_if_done o v (among, kind)) ∙ not_given in cc
 
-    left_value : (i v : ℕ) → slice_get (left_values initial events) i ≡ Some v → (x : Operation) × (slice_get left i ≡ Some x) × (x.kind ≡ Enq v)
+    left_value : (i v : ℕ) → slice_get (left_values initial events) i ≡ Some v → (x : Operation) × (slice_get left i ≡ Some x) × (x.kind ≡ Enqueue v)
     left_value i v at =
         let mapped : option_map value_of (slice_get left i) ≡ Some v =
         sym (slice_get-map value_of left i) ∙ ap (λ (vs : List ℕ). slice_get vs i) (left_are initial events) ∙ at in
         by_found (slice_get left i) refl mapped
       where
         by_found : (found : Option Operation) → slice_get left i ≡ found → option_map value_of found ≡ Some v
-            → (x : Operation) × (slice_get left i ≡ Some x) × (x.kind ≡ Enq v)
+            → (x : Operation) × (slice_get left i ≡ Some x) × (x.kind ≡ Enqueue v)
         by_found None here is = cc
         by_found (Some x) here is =
             let known = in_left x (contains_at left i x here) in
             let same : value_of x ≡ v = let e : Some (value_of x) ≡ Some v = is in cc in
             let values : known.0 ≡ v = sym (ap value_in known.1.1) ∙ same in
-            (x, here, known.1.1 ∙ ap (λ w. Enq w) values)
+            (x, here, known.1.1 ∙ ap (λ w. Enqueue w) values)
 
-    value_left : (i v : ℕ) (x : Operation) → slice_get left i ≡ Some x → x.kind ≡ Enq v → slice_get (left_values initial events) i ≡ Some v
+    value_left : (i v : ℕ) (x : Operation) → slice_get left i ≡ Some x → x.kind ≡ Enqueue v → slice_get (left_values initial events) i ≡ Some v
     value_left i v x at kind =
         ap (λ (vs : List ℕ). slice_get vs i) (sym (left_are initial events)) ∙ slice_get-map value_of left i
         ∙ ap (option_map value_of) at ∙ ap (λ w. Some w) (ap value_in kind)
@@ -394,18 +394,18 @@ module _ (initial : List ℕ) (events : List Event) (history : IsHistoryFrom ini
           elim (Contains-append_cases enqueue_answers (paired dequeue_calls (left_values initial events)) found.0 found.1) [
             | inl first ↦
                 let is = (in_enqueue_answers found.0 first).2 in
-                let kind : Some (Enq is.0) ≡ Some p.kind =
+                let kind : Some (Enqueue is.0) ≡ Some p.kind =
                 ap₂ kind_of (sym (called ∙ is.1)) (sym (what ∙ is.3)) ∙ of.2.kind in
-                inl (is.0, (call, among, pending, called ∙ is.1, sym time), (let e : Enq is.0 ≡ p.kind = cc in sym e), done_if_given is.0 is.2)
+                inl (is.0, (call, among, pending, called ∙ is.1, sym time), (let e : Enqueue is.0 ≡ p.kind = cc in sym e), done_if_given is.0 is.2)
             | inr second ↦
                 let is = in_dequeue_answers found.0 second in
                 let v = is.3.1 in
-                let kind : Some (Deq is.3.1) ≡ Some p.kind = ap₂ kind_of (sym (called ∙ is.2)) (sym (what ∙ is.3.4)) ∙ of.2.kind in
+                let kind : Some (Dequeue is.3.1) ≡ Some p.kind = ap₂ kind_of (sym (called ∙ is.2)) (sym (what ∙ is.3.4)) ∙ of.2.kind in
                 let x = left_value is.3.0 is.3.1 is.3.3 in
                 let at_call : slice_get dequeuing is.3.0 ≡ Some (p.call + ORIGIN) =
                 slice_get-map time_of_call dequeue_calls is.3.0 ∙ ap (option_map time_of_call) is.3.2
                 ∙ ap (λ (n : ℕ). Some n) (ap time_of_call (sym one) ∙ sym time) in
-                inr (is.3.1, (is.3.0, x.0, at_call, x.1, x.2, (let e : Deq is.3.1 ≡ p.kind = cc in sym e)))
+                inr (is.3.1, (is.3.0, x.0, at_call, x.1, x.2, (let e : Dequeue is.3.1 ≡ p.kind = cc in sym e)))
           ],
         )
 
@@ -445,14 +445,14 @@ module _ (initial : List ℕ) (events : List Event) (history : IsHistoryFrom ini
           let in_pend = passes_filter (is_pending events) events enqueuing.0 (test_of_pending initial events history enqueuing.0 enqueuing.2) enqueuing.1 in
           let in_a = Contains-append_left enqueue_answers (paired dequeue_calls (left_values initial events)) (record { call = enqueuing.0; what = RetEnq })
           (keeps (enqueue_answer events) (pending_calls events) enqueuing.0 (record { call = enqueuing.0; what = RetEnq }) in_pend answer) in
-          let p = answered_made (record { call = enqueuing.0; what = RetEnq }) (Enq v) in_a (ap (λ w. kind_of w RetEnq) enqueuing.3) in
+          let p = answered_made (record { call = enqueuing.0; what = RetEnq }) (Enqueue v) in_a (ap (λ w. kind_of w RetEnq) enqueuing.3) in
           (later_by ORIGIN p.0, (later_there initial (operations_of ours) p.0 p.1, p.3), ap (λ n. n + ORIGIN) p.2 ∙ enqueuing.4);
       has_dequeue = λ i time v x at_call at_left is_x.
           let c = call_at i time at_call in
           let what = calls_dequeue_is c.0 (passed_filter calls_dequeue (pending_calls events) c.0 (contains_at dequeue_calls i c.0 c.1)).1 in
           let in_a = Contains-append_right enqueue_answers (paired dequeue_calls (left_values initial events)) (record { call = c.0; what = RetDeq v })
           (paired_at dequeue_calls (left_values initial events) i c.0 v c.1 (value_left i v x at_left is_x)) in
-          let p = answered_made (record { call = c.0; what = RetDeq v }) (Deq v) in_a (ap (λ w. kind_of w (RetDeq v)) what) in
+          let p = answered_made (record { call = c.0; what = RetDeq v }) (Dequeue v) in_a (ap (λ w. kind_of w (RetDeq v)) what) in
           (later_by ORIGIN p.0, (later_there initial (operations_of ours) p.0 p.1, p.3), ap (λ n. n + ORIGIN) p.2 ∙ c.2);
       returned = returned_by_last;
       enqueue_called = λ time v enqueuing.

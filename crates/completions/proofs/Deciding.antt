@@ -5,7 +5,7 @@ use Rattle.std.proofs.lemmas.Bool.{cases_lt, cases_eq}
 use Rattle.std.proofs.lemmas.Option.{slice_get_within}
 use Rattle.history_merge.specs.declared.operation.Operation.{Operation}
 use Rattle.history_merge.specs.declared.operation.OpKind.{OpKind}
-use Rattle.history_merge.specs.declared.operation.OpKind.TheVariants.{Enq, Deq, Empty, Not}
+use Rattle.history_merge.specs.declared.operation.OpKind.TheVariants.{Enqueue, Dequeue, DequeueEmpty, EnqueueFailed}
 use Rattle.history_merge.specs.Complete.{AreComplete}
 use Rattle.history_merge.specs.Operations.{Did, NoneDid}
 use Rattle.history_merge.proofs.Distinct.{call_by_return, CallsFor, contains_at, contains_cons, not_in_none, one_at, one_by_key, pairs_at, place_of}
@@ -28,17 +28,17 @@ abbrev pub NoViolation : List Operation → Type 0
 NoViolation operations = (violation : FullViolation) → ¬ (IsViolationOf (on operations) violation)
 
 -- an operation of this kind calls to enqueue the value, or doesn't
-calls_or_not : (v : ℕ) (k : OpKind) → ((k ≡ Enq v) ⊎ (k ≡ Not v)) ⊎ ¬ ((k ≡ Enq v) ⊎ (k ≡ Not v))
-calls_or_not v (Enq w) = elim (cases_eq w v) [
-  | inl same ↦ inl (inl (ap (λ u. Enq u) same))
+calls_or_not : (v : ℕ) (k : OpKind) → ((k ≡ Enqueue v) ⊎ (k ≡ EnqueueFailed v)) ⊎ ¬ ((k ≡ Enqueue v) ⊎ (k ≡ EnqueueFailed v))
+calls_or_not v (Enqueue w) = elim (cases_eq w v) [
+  | inl same ↦ inl (inl (ap (λ u. Enqueue u) same))
   | inr other ↦ inr (λ is. elim is [ inl e ↦ other (cc e) | inr e ↦ cc e ])
 ]
-calls_or_not v (Not w) = elim (cases_eq w v) [
-  | inl same ↦ inl (inr (ap (λ u. Not u) same))
+calls_or_not v (EnqueueFailed w) = elim (cases_eq w v) [
+  | inl same ↦ inl (inr (ap (λ u. EnqueueFailed u) same))
   | inr other ↦ inr (λ is. elim is [ inl e ↦ cc e | inr e ↦ other (cc e) ])
 ]
-calls_or_not v (Deq w) = inr (λ is. elim is [ inl e ↦ cc e | inr e ↦ cc e ])
-calls_or_not v Empty = inr (λ is. elim is [ inl e ↦ cc e | inr e ↦ cc e ])
+calls_or_not v (Dequeue w) = inr (λ is. elim is [ inl e ↦ cc e | inr e ↦ cc e ])
+calls_or_not v DequeueEmpty = inr (λ is. elim is [ inl e ↦ cc e | inr e ↦ cc e ])
 
 pub call_for : (operations : List Operation) (v : ℕ)
     → ((o : Operation) × Contains operations o × CallsFor o v) ⊎ ((o : Operation) → Contains operations o → ¬ (CallsFor o v))
@@ -74,8 +74,8 @@ by_place key xs i k x y rise at_x at_y near = elim (cases_eq k i) [
   | inr other ↦ let less = pairs_at (λ a b. key a < key b) xs k i y x rise (omega arith) at_y at_x in omega (arith, less)
 ]
 
-same_value : (u w : ℕ) (c d : Operation) → c ≡ d → c.kind ≡ Deq u → d.kind ≡ Deq w → u ≡ w
-same_value u w c d one is_c is_d = let e : Deq u ≡ Deq w = sym is_c ∙ ap (λ (o : Operation). o.kind) one ∙ is_d in cc
+same_value : (u w : ℕ) (c d : Operation) → c ≡ d → c.kind ≡ Dequeue u → d.kind ≡ Dequeue w → u ≡ w
+same_value u w c d one is_c is_d = let e : Dequeue u ≡ Dequeue w = sym is_c ∙ ap (λ (o : Operation). o.kind) one ∙ is_d in cc
 
 -- at each gap from the frontier on, some value of a cover is in the queue
 covered_at : (operations : List Operation) (empty : Operation) (cover : List Life) (frontier gap : ℕ) → CoversFrom (on operations) empty frontier cover
@@ -94,8 +94,8 @@ covered_at operations empty (life ∷ next ∷ rest) frontier gap covers from be
 module _ (done : List Operation) (Enqueuing : ℕ → ℕ → Type 0) (dequeuing : List ℕ) where
   -- a pending call that has a return, with any answer
   abbrev pub Ends : Operation → Type 0
-  Ends o = ((v : ℕ) × Enqueuing o.call v × ((o.kind ≡ Enq v) ⊎ (o.kind ≡ Not v)))
-      ⊎ (Contains dequeuing o.call × (((v : ℕ) × (o.kind ≡ Deq v)) ⊎ (o.kind ≡ Empty)))
+  Ends o = ((v : ℕ) × Enqueuing o.call v × ((o.kind ≡ Enqueue v) ⊎ (o.kind ≡ EnqueueFailed v)))
+      ⊎ (Contains dequeuing o.call × (((v : ℕ) × (o.kind ≡ Dequeue v)) ⊎ (o.kind ≡ DequeueEmpty)))
 
   -- the completed operations, and some pending calls that have returns
   pub record Completes (full : List Operation) : Type 0 where
@@ -105,11 +105,11 @@ module _ (done : List Operation) (Enqueuing : ℕ → ℕ → Type 0) (dequeuing
 
   -- a pending enqueue whose value a completed dequeue gave
   abbrev pub EnqueuesGiven : Operation → Type 0
-  EnqueuesGiven o = (v : ℕ) × Enqueuing o.call v × (o.kind ≡ Enq v) × ((d : Operation) × Did done d (Deq v))
+  EnqueuesGiven o = (v : ℕ) × Enqueuing o.call v × (o.kind ≡ Enqueue v) × ((d : Operation) × Did done d (Dequeue v))
 
   -- the i-th pending dequeue, which gives the i-th value that is left
   abbrev pub GivesLeft : List Operation → Operation → ℕ → Type 0
-  GivesLeft left o v = (i : ℕ) × (x : Operation) × (slice_get dequeuing i ≡ Some o.call) × (slice_get left i ≡ Some x) × (x.kind ≡ Enq v) × (o.kind ≡ Deq v)
+  GivesLeft left o v = (i : ℕ) × (x : Operation) × (slice_get dequeuing i ≡ Some o.call) × (slice_get left i ≡ Some x) × (x.kind ≡ Enqueue v) × (o.kind ≡ Dequeue v)
 
   -- the chosen completion: the enqueues of the values that are left, by their returns, and the calls that end after
   -- the last ticket
@@ -117,14 +117,14 @@ module _ (done : List Operation) (Enqueuing : ℕ → ℕ → Type 0) (dequeuing
     pub complete : AreComplete ours
     pub keeps : (o : Operation) → Contains done o → Contains ours o
     pub from : (o : Operation) → Contains ours o → Contains done o ⊎ ((last < o.ret) × (EnqueuesGiven o ⊎ ((v : ℕ) × GivesLeft left o v)))
-    pub has_enqueue : (call v : ℕ) (d : Operation) → Enqueuing call v → Did done d (Deq v) → (o : Operation) × Did ours o (Enq v) × (o.call ≡ call)
-    pub has_dequeue : (i call v : ℕ) (x : Operation) → slice_get dequeuing i ≡ Some call → slice_get left i ≡ Some x → x.kind ≡ Enq v
-        → (o : Operation) × Did ours o (Deq v) × (o.call ≡ call)
+    pub has_enqueue : (call v : ℕ) (d : Operation) → Enqueuing call v → Did done d (Dequeue v) → (o : Operation) × Did ours o (Enqueue v) × (o.call ≡ call)
+    pub has_dequeue : (i call v : ℕ) (x : Operation) → slice_get dequeuing i ≡ Some call → slice_get left i ≡ Some x → x.kind ≡ Enqueue v
+        → (o : Operation) × Did ours o (Dequeue v) × (o.call ≡ call)
     pub returned : (o : Operation) → Contains done o → o.ret ≤ last
     pub enqueue_called : (call v : ℕ) → Enqueuing call v → call ≤ last
     pub dequeue_called : (call : ℕ) → Contains dequeuing call → call ≤ last
-    pub left_is : (x : Operation) → Contains left x → (v : ℕ) × Did done x (Enq v) × NoneDid done (Deq v)
-    pub left_has : (x : Operation) (v : ℕ) → Did done x (Enq v) → NoneDid done (Deq v) → Contains left x
+    pub left_is : (x : Operation) → Contains left x → (v : ℕ) × Did done x (Enqueue v) × NoneDid done (Dequeue v)
+    pub left_has : (x : Operation) (v : ℕ) → Did done x (Enqueue v) → NoneDid done (Dequeue v) → Contains left x
     pub left_rises : AllPairs (λ x y. x.ret < y.ret) left
     pub calls_rise : AllPairs (λ c d. c < d) dequeuing
 
@@ -150,7 +150,7 @@ module _ (done : List Operation) (Enqueuing : ℕ → ℕ → Type 0) (dequeuing
     is_done o among early = elim (chosen.from o among) [ inl old ↦ old | inr (late, _) ↦ absurd (omega (arith, late, early)) ]
 
     -- a value that is left has one place
-    left_once : (i j v : ℕ) (x y : Operation) → slice_get left i ≡ Some x → slice_get left j ≡ Some y → x.kind ≡ Enq v → y.kind ≡ Enq v → i ≡ j
+    left_once : (i j v : ℕ) (x y : Operation) → slice_get left i ≡ Some x → slice_get left j ≡ Some y → x.kind ≡ Enqueue v → y.kind ≡ Enqueue v → i ≡ j
     left_once i j v x y at_x at_y is_x is_y =
         let in_x = (chosen.left_is x (contains_at left i x at_x)).1.0 in
         let in_y = (chosen.left_is y (contains_at left j y at_y)).1.0 in
@@ -165,21 +165,21 @@ module _ (done : List Operation) (Enqueuing : ℕ → ℕ → Type 0) (dequeuing
         same_call ours o p chosen.complete in_o in_p calls
 
     -- a dequeue of a value that was left when the calls were pending
-    gives_it : (d : Operation) (v : ℕ) → Did ours d (Deq v) → (Did done d (Deq v)) ⊎ ((last < d.ret) × GivesLeft left d v)
+    gives_it : (d : Operation) (v : ℕ) → Did ours d (Dequeue v) → (Did done d (Dequeue v)) ⊎ ((last < d.ret) × GivesLeft left d v)
     gives_it d v did = elim (chosen.from d did.0) [
       | inl old ↦ inl (old, did.1)
-      | inr (late, inl given) ↦ let e = given.2 in let f = did.1 in let clash : Enq given.0 ≡ Deq v = sym e ∙ f in cc
+      | inr (late, inl given) ↦ let e = given.2 in let f = did.1 in let clash : Enqueue given.0 ≡ Dequeue v = sym e ∙ f in cc
       | inr (late, inr (w, g)) ↦
-          let same : w ≡ v = let e : Deq w ≡ Deq v = sym g.5 ∙ did.1 in cc in
-          inr (late, (g.0, g.1, g.2, g.3, subst (λ (u : ℕ). g.1.kind ≡ Enq u) same g.4, did.1))
+          let same : w ≡ v = let e : Dequeue w ≡ Dequeue v = sym g.5 ∙ did.1 in cc in
+          inr (late, (g.0, g.1, g.2, g.3, subst (λ (u : ℕ). g.1.kind ≡ Enqueue u) same g.4, did.1))
     ]
 
     -- a dequeue of a value that is left ends a pending call, in each completion
-    ends_pending : (d : Operation) (v : ℕ) → Did full d (Deq v) → NoneDid done (Deq v) → (q : ℕ) × (slice_get dequeuing q ≡ Some d.call)
+    ends_pending : (d : Operation) (v : ℕ) → Did full d (Dequeue v) → NoneDid done (Dequeue v) → (q : ℕ) × (slice_get dequeuing q ≡ Some d.call)
     ends_pending d v did not_done = elim (is.from d did.0) [
       | inl old ↦ absurd (not_done d old did.1)
-      | inr (inl (w, enqueuing, inl e)) ↦ let f = did.1 in let clash : Enq w ≡ Deq v = sym e ∙ f in cc
-      | inr (inl (w, enqueuing, inr e)) ↦ let f = did.1 in let clash : Not w ≡ Deq v = sym e ∙ f in cc
+      | inr (inl (w, enqueuing, inl e)) ↦ let f = did.1 in let clash : Enqueue w ≡ Dequeue v = sym e ∙ f in cc
+      | inr (inl (w, enqueuing, inr e)) ↦ let f = did.1 in let clash : EnqueueFailed w ≡ Dequeue v = sym e ∙ f in cc
       | inr (inr (among, answer)) ↦ place_of dequeuing d.call among
     ]
 
@@ -187,19 +187,19 @@ module _ (done : List Operation) (Enqueuing : ℕ → ℕ → Type 0) (dequeuing
     abbrev life_of : (x : Operation) (v : ℕ) → Life
     life_of x v = record { enqueue = x; dequeue = find (is_dequeue_of v) full }
 
-    abbrev is_life : (x : Operation) (v : ℕ) → Did full x (Enq v) → IsLife (on full) (life_of x v)
+    abbrev is_life : (x : Operation) (v : ℕ) → Did full x (Enqueue v) → IsLife (on full) (life_of x v)
     is_life x v did = (v, did, found_dequeue full v (find (is_dequeue_of v) full) refl)
 
     -- each value that is left and was returned no later than x is given by a dequeue called by this time
     abbrev GoneBy : ℕ → Operation → Type 0
-    GoneBy time x = (y : Operation) (w : ℕ) → Did done y (Enq w) → NoneDid done (Deq w) → y.ret ≤ x.ret → dequeue_call (life_of y w) ≤ time
+    GoneBy time x = (y : Operation) (w : ℕ) → Did done y (Enqueue w) → NoneDid done (Dequeue w) → y.ret ≤ x.ret → dequeue_call (life_of y w) ≤ time
 
     -- so a pending dequeue gives x, and was called by then, since there are as many pending dequeues as values
-    module _ (x : Operation) (v time : ℕ) (did_x : Did done x (Enq v)) (not_taken : NoneDid done (Deq v)) (low : time < NEVER)
+    module _ (x : Operation) (v time : ℕ) (did_x : Did done x (Enqueue v)) (not_taken : NoneDid done (Dequeue v)) (low : time < NEVER)
         (gone : GoneBy time x) where
       -- the k-th value that is left is given by the q-th pending dequeue, by that time
       abbrev IsGivenBy : ℕ → ℕ → Type 0
-      IsGivenBy k q = (y : Operation) × (w : ℕ) × (d : Operation) × (slice_get left k ≡ Some y) × Did done y (Enq w) × Did full d (Deq w)
+      IsGivenBy k q = (y : Operation) × (w : ℕ) × (d : Operation) × (slice_get left k ≡ Some y) × Did done y (Enqueue w) × Did full d (Dequeue w)
           × (slice_get dequeuing q ≡ Some d.call) × (d.call ≤ time)
 
       each : (i : ℕ) → slice_get left i ≡ Some x → (k : ℕ) → k < suc i → (q : ℕ) × IsGivenBy k q
@@ -220,7 +220,7 @@ module _ (done : List Operation) (Enqueuing : ℕ → ℕ → Type 0) (dequeuing
           let calls = one_at dequeuing q a.2.call b.2.call a.6 b.6 in
           let one = same_call full a.2 b.2 is.complete a.5.0 b.5.0 calls in
           let values = same_value a.1 b.1 a.2 b.2 one a.5.1 b.5.1 in
-          left_once j k b.1 a.0 b.0 a.3 b.3 (subst (λ (u : ℕ). a.0.kind ≡ Enq u) values a.4.1) b.4.1
+          left_once j k b.1 a.0 b.0 a.3 b.3 (subst (λ (u : ℕ). a.0.kind ≡ Enqueue u) values a.4.1) b.4.1
 
       before_late : (i q call c : ℕ) → time < call → slice_get dequeuing i ≡ Some call → slice_get dequeuing q ≡ Some c → c ≤ time → q < i
       before_late i q call c late here at by = elim (cases_lt q i) [
@@ -229,7 +229,7 @@ module _ (done : List Operation) (Enqueuing : ℕ → ℕ → Type 0) (dequeuing
       ]
 
       given : (i : ℕ) → slice_get left i ≡ Some x → (found : Option ℕ) → slice_get dequeuing i ≡ found
-          → (o : Operation) × Did ours o (Deq v) × GivesLeft left o v × (o.call ≤ time)
+          → (o : Operation) × Did ours o (Dequeue v) × GivesLeft left o v × (o.call ≤ time)
       given i at None past =
           let few : suc i ≤ i = at_most (suc i) i IsGivenBy (each i at) (λ k q below g. within_none dequeuing i q g.2.call past g.6) once in
           absurd (omega arith)
@@ -243,7 +243,7 @@ module _ (done : List Operation) (Enqueuing : ℕ → ℕ → Type 0) (dequeuing
             (o.0, o.1, (i, x, at_call, at, did_x.1, o.1.1), omega (arith, o.2, by))
       ]
 
-      taken_by : (o : Operation) × Did ours o (Deq v) × GivesLeft left o v × (o.call ≤ time)
+      taken_by : (o : Operation) × Did ours o (Dequeue v) × GivesLeft left o v × (o.call ≤ time)
       taken_by =
           let place = place_of left x (chosen.left_has x v did_x not_taken) in
           given place.0 place.1 (slice_get dequeuing place.0) refl
@@ -252,25 +252,25 @@ module _ (done : List Operation) (Enqueuing : ℕ → ℕ → Type 0) (dequeuing
 
     -- a value that the other completion enqueues, and a completed dequeue gave, is enqueued by the same call in the
     -- chosen one
-    ours_enqueues : (e d : Operation) (v : ℕ) → Did done d (Deq v) → Did full e (Enq v) → (o : Operation) × Did ours o (Enq v) × (o.call ≡ e.call)
+    ours_enqueues : (e d : Operation) (v : ℕ) → Did done d (Dequeue v) → Did full e (Enqueue v) → (o : Operation) × Did ours o (Enqueue v) × (o.call ≡ e.call)
     ours_enqueues e d v did_d did_e = elim (is.from e did_e.0) [
       | inl old ↦ (e, (chosen.keeps e old, did_e.1), refl)
       | inr (inl (w, enqueuing, inl k)) ↦
-          let values : w ≡ v = let f : Enq w ≡ Enq v = sym k ∙ did_e.1 in cc in
+          let values : w ≡ v = let f : Enqueue w ≡ Enqueue v = sym k ∙ did_e.1 in cc in
           chosen.has_enqueue e.call v d (subst (Enqueuing e.call) values enqueuing) did_d
-      | inr (inl (w, enqueuing, inr k)) ↦ let f : Not w ≡ Enq v = sym k ∙ did_e.1 in cc
-      | inr (inr (among, inl (w, k))) ↦ let f : Deq w ≡ Enq v = sym k ∙ did_e.1 in cc
-      | inr (inr (among, inr k)) ↦ let f : Empty ≡ Enq v = sym k ∙ did_e.1 in cc
+      | inr (inl (w, enqueuing, inr k)) ↦ let f : EnqueueFailed w ≡ Enqueue v = sym k ∙ did_e.1 in cc
+      | inr (inr (among, inl (w, k))) ↦ let f : Dequeue w ≡ Enqueue v = sym k ∙ did_e.1 in cc
+      | inr (inr (among, inr k)) ↦ let f : DequeueEmpty ≡ Enqueue v = sym k ∙ did_e.1 in cc
     ]
 
-    called_at_once : (enq e d : Operation) (v : ℕ) → Did done d (Deq v) → Did ours enq (Enq v) → Did full e (Enq v) → e.call ≡ enq.call
+    called_at_once : (enq e d : Operation) (v : ℕ) → Did done d (Dequeue v) → Did ours enq (Enqueue v) → Did full e (Enqueue v) → e.call ≡ enq.call
     called_at_once enq e d v did_d did_enq did_e =
         let o = ours_enqueues e d v did_d did_e in
         let one = same_enqueue ours o.0 enq v chosen.complete o.1 did_enq in
         sym o.2 ∙ ap (λ (o : Operation). o.call) one
 
     -- a completed dequeue gives a value that the other completion enqueues
-    enqueued_for : (v : ℕ) (d : Operation) → Did done d (Deq v) → (e : Operation) × Did full e (Enq v)
+    enqueued_for : (v : ℕ) (d : Operation) → Did done d (Dequeue v) → (e : Operation) × Did full e (Enqueue v)
     enqueued_for v d did_d = elim (call_for full v) [
       | inl (e, among, inl k) ↦ (e, (among, k))
       | inl (e, among, inr k) ↦ absurd (none (fresh d (Some e)) (record { value = v; dequeues = (is.keeps d did_d.0, did_d.1); enqueues = inl (among, k) }))
@@ -283,17 +283,17 @@ module _ (done : List Operation) (Enqueuing : ℕ → ℕ → Type 0) (dequeuing
     ]
 
     -- a value that is left was enqueued, and no completed dequeue gave it
-    untaken : (i v : ℕ) (x : Operation) → slice_get left i ≡ Some x → x.kind ≡ Enq v → Did done x (Enq v) × NoneDid done (Deq v)
+    untaken : (i v : ℕ) (x : Operation) → slice_get left i ≡ Some x → x.kind ≡ Enqueue v → Did done x (Enqueue v) × NoneDid done (Dequeue v)
     untaken i v x at is_x =
         let known = chosen.left_is x (contains_at left i x at) in
-        let values : known.0 ≡ v = let e : Enq known.0 ≡ Enq v = sym known.1.1 ∙ is_x in cc in
-        ((known.1.0, is_x), subst (λ (u : ℕ). NoneDid done (Deq u)) values known.2)
+        let values : known.0 ≡ v = let e : Enqueue known.0 ≡ Enqueue v = sym known.1.1 ∙ is_x in cc in
+        ((known.1.0, is_x), subst (λ (u : ℕ). NoneDid done (Dequeue u)) values known.2)
 
     -- a value that is left isn't that of a failed enqueue
-    not_refused : (x o : Operation) (v : ℕ) → Did ours x (Enq v) → Did ours o (Not v) → ⊥
+    not_refused : (x o : Operation) (v : ℕ) → Did ours x (Enqueue v) → Did ours o (EnqueueFailed v) → ⊥
     not_refused x o v did_x did_o =
         let one = same_value_call ours x o v chosen.complete did_x.0 did_o.0 (inl did_x.1) (inr did_o.1) in
-        let clash : Enq v ≡ Not v = sym did_x.1 ∙ ap (λ (o : Operation). o.kind) one ∙ did_o.1 in cc
+        let clash : Enqueue v ≡ EnqueueFailed v = sym did_x.1 ∙ ap (λ (o : Operation). o.kind) one ∙ did_o.1 in cc
 
     -- ---- the chosen completion has no violation
 
@@ -352,7 +352,7 @@ module _ (done : List Operation) (Enqueuing : ℕ → ℕ → Type 0) (dequeuing
     ]
 
     module _ (a b : Life) (bad : IsOrderViolation (on ours) a b) (d : Operation) (is_d : dequeue_of b ≡ Some d) where
-      did_d : Did ours d (Deq bad.is_b.0)
+      did_d : Did ours d (Dequeue bad.is_b.0)
       did_d = did_dequeue ours b d bad.is_b is_d
 
       before : (enqueue_of a).ret < (enqueue_of b).call
@@ -369,8 +369,8 @@ module _ (done : List Operation) (Enqueuing : ℕ → ℕ → Type 0) (dequeuing
           omega (arith, less, ret, call)
 
       -- a completed dequeue gave b
-      module _ (old : Did done d (Deq bad.is_b.0)) where
-        enqueue : (e : Operation) × Did full e (Enq bad.is_b.0)
+      module _ (old : Did done d (Dequeue bad.is_b.0)) where
+        enqueue : (e : Operation) × Did full e (Enqueue bad.is_b.0)
         enqueue = enqueued_for bad.is_b.0 d old
 
         abbrev there : Life
@@ -400,11 +400,11 @@ module _ (done : List Operation) (Enqueuing : ℕ → ℕ → Type 0) (dequeuing
           | inr by ↦ by
         ]
 
-        pending_gave : NoneDid done (Deq bad.is_a.0) → (o : Operation) × Did ours o (Deq bad.is_a.0) × GivesLeft left o bad.is_a.0 × (o.call ≤ d.ret)
+        pending_gave : NoneDid done (Dequeue bad.is_a.0) → (o : Operation) × Did ours o (Dequeue bad.is_a.0) × GivesLeft left o bad.is_a.0 × (o.call ≤ d.ret)
         pending_gave not_taken = taken_by (enqueue_of a) bad.is_a.0 d.ret (old_a, bad.is_a.1.1) not_taken low gone_by_then
 
         overtaken_by_old : (found : Option Operation) → dequeue_of a ≡ found
-            → MatchOption found (NoneDid ours (Deq bad.is_a.0)) (λ o. Did ours o (Deq bad.is_a.0)) → ⊥
+            → MatchOption found (NoneDid ours (Dequeue bad.is_a.0)) (λ o. Did ours o (Dequeue bad.is_a.0)) → ⊥
         overtaken_by_old None is_found none_a =
             let o = pending_gave (λ o among k. none_a o (chosen.keeps o among) k) in
             none_a o.0 o.1.0 o.1.1
@@ -425,7 +425,7 @@ module _ (done : List Operation) (Enqueuing : ℕ → ℕ → Type 0) (dequeuing
       -- a pending dequeue gives b
       module _ (late : last < d.ret) (g : GivesLeft left d bad.is_b.0) where
         overtaken_by_left : (found : Option Operation) → dequeue_of a ≡ found
-            → MatchOption found (NoneDid ours (Deq bad.is_a.0)) (λ o. Did ours o (Deq bad.is_a.0)) → ⊥
+            → MatchOption found (NoneDid ours (Dequeue bad.is_a.0)) (λ o. Did ours o (Dequeue bad.is_a.0)) → ⊥
         overtaken_by_left (Some o) is_found did_o = absurd (omega (arith, dequeued_later o is_found, late, called_by_last o did_o.0))
         overtaken_by_left None is_found none_a =
             let place = place_of left (enqueue_of a) (chosen.left_has (enqueue_of a) bad.is_a.0 (old_a, bad.is_a.1.1)
@@ -454,8 +454,8 @@ module _ (done : List Operation) (Enqueuing : ℕ → ℕ → Type 0) (dequeuing
       old_empty : Contains done empty
       old_empty = elim (chosen.from empty bad.answers_empty.0) [
         | inl old ↦ old
-        | inr (late, inl given) ↦ let e : Enq given.0 ≡ Empty = sym given.2 ∙ bad.answers_empty.1 in cc
-        | inr (late, inr (v, g)) ↦ let e : Deq v ≡ Empty = sym g.5 ∙ bad.answers_empty.1 in cc
+        | inr (late, inl given) ↦ let e : Enqueue given.0 ≡ DequeueEmpty = sym given.2 ∙ bad.answers_empty.1 in cc
+        | inr (late, inr (v, g)) ↦ let e : Dequeue v ≡ DequeueEmpty = sym g.5 ∙ bad.answers_empty.1 in cc
       ]
 
       -- no gap of the window that is free in the other completion is covered in the chosen one
@@ -473,11 +473,11 @@ module _ (done : List Operation) (Enqueuing : ℕ → ℕ → Type 0) (dequeuing
           | inr by ↦ by
         ]
 
-        given_by_gap : NoneDid done (Deq life_is.0) → (o : Operation) × Did ours o (Deq life_is.0) × GivesLeft left o life_is.0 × (o.call ≤ gap)
+        given_by_gap : NoneDid done (Dequeue life_is.0) → (o : Operation) × Did ours o (Dequeue life_is.0) × GivesLeft left o life_is.0 × (o.call ≤ gap)
         given_by_gap not_taken = taken_by (enqueue_of life) life_is.0 gap (old_life, life_is.1.1) not_taken low_gap gone_at_gap
 
         not_covered : (found : Option Operation) → dequeue_of life ≡ found
-            → MatchOption found (NoneDid ours (Deq life_is.0)) (λ o. Did ours o (Deq life_is.0)) → ⊥
+            → MatchOption found (NoneDid ours (Dequeue life_is.0)) (λ o. Did ours o (Dequeue life_is.0)) → ⊥
         not_covered None is_found none_left =
             let o = given_by_gap (λ o among k. none_left o (chosen.keeps o among) k) in
             none_left o.0 o.1.0 o.1.1
@@ -495,7 +495,7 @@ module _ (done : List Operation) (Enqueuing : ℕ → ℕ → Type 0) (dequeuing
             ]
 
       in_no_window : ⊥
-      in_no_window = elim (free_gap_or_covered full empty clear (is.keeps empty old_empty) (no_enqueue empty Empty bad.answers_empty.1 refl)) [
+      in_no_window = elim (free_gap_or_covered full empty clear (is.keeps empty old_empty) (no_enqueue empty DequeueEmpty bad.answers_empty.1 refl)) [
         | inl least ↦
             let window = least.1.in_window in
             let found = covered_at ours empty cover empty.call least.0 bad.covers window.0 window.1 in

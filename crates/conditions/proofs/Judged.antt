@@ -17,7 +17,7 @@ use Rattle.history_merge.specs.Initial.{Contents, HistoryView, IsCompleteFrom}
 use Rattle.history_merge.specs.Legal.{ArePlacesOf}
 use Rattle.history_merge.specs.Operations.{enqueued_value, operations_of}
 use Rattle.history_merge.proofs.Distinct.{contains_at, found_first, traced}
-use Rattle.value_match.proofs.ToldPlaces.{mapped_option}
+use Rattle.value_match.proofs.HistoryPlaces.{mapped_option}
 use Rattle.value_match.specs.declared.violation.Violation.{Violation}
 use Rattle.verdicts.specs.Selection.{AreLinearizable, contents_of, select, selects, value_of}
 use Rattle.claims.specs.declared.verdict.Verdict.TheVariants.{No, Yes}

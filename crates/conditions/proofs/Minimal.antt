@@ -8,7 +8,7 @@ use Rattle.std.proofs.lemmas.Bool.{eqb-true}
 use Rattle.event_records.specs.declared.limits.TheConstants.{MAX_INITIAL}
 use Rattle.history_merge.specs.declared.operation.Operation.{Operation}
 use Rattle.history_merge.specs.declared.operation.OpKind.{OpKind}
-use Rattle.history_merge.specs.declared.operation.OpKind.TheVariants.{Deq, Empty, Enq, Not}
+use Rattle.history_merge.specs.declared.operation.OpKind.TheVariants.{Dequeue, DequeueEmpty, Enqueue, EnqueueFailed}
 use Rattle.history_merge.specs.Faults.{is_initial}
 use Rattle.history_merge.specs.Initial.{Contents, HistoryView, IsCompleteFrom}
 use Rattle.history_merge.specs.Operations.{enqueued_value, operations_of}
@@ -119,10 +119,10 @@ any_alike {X} p q (x ∷ xs) keeps = pick (p x) (q x) refl refl (keeps x) (any_a
     pick false false is_p is_q kept more = rw is_p more
 
 enqueues_own : (k : OpKind) (v : ℕ) → enqueued_value k ≡ Some v → value_of k ≡ Some v
-enqueues_own (Enq w) v is = is
-enqueues_own (Not w) v is = is
-enqueues_own (Deq w) v is = cc
-enqueues_own Empty v is = cc
+enqueues_own (Enqueue w) v is = is
+enqueues_own (EnqueueFailed w) v is = is
+enqueues_own (Dequeue w) v is = cc
+enqueues_own DequeueEmpty v is = cc
 
 -- a selected value has the producer that it has in the whole
 producer_kept : (values empties : ℕ → Bool) (whole : Contents) (v : ℕ) → values v ≡ true → producer_of (select values empties whole) v ≡ producer_of whole v

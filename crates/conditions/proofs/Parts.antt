@@ -8,7 +8,7 @@ use Rattle.std.proofs.lemmas.Option.{get_or_from_slice_get, slice_get_within}
 use Rattle.event_records.specs.declared.event.Event.{Event}
 use Rattle.event_records.specs.declared.limits.TheConstants.{MAX_EVENTS}
 use Rattle.history_merge.specs.declared.operation.Operation.{Operation}
-use Rattle.history_merge.specs.declared.operation.OpKind.TheVariants.{Empty}
+use Rattle.history_merge.specs.declared.operation.OpKind.TheVariants.{DequeueEmpty}
 use Rattle.history_merge.specs.Initial.{HistoryView, IsCompleteFrom}
 use Rattle.history_merge.specs.Legal.{ArePlacesOf}
 use Rattle.history_merge.specs.Operations.{operations_of}
@@ -25,7 +25,7 @@ use Rattle.conditions.specs.declared.part.Part.{Part}
 
 -- an operation for places past the end of a list
 abbrev pub past_end : Operation
-past_end = record { call = 0; ret = 0; thread = 0; kind = Empty }
+past_end = record { call = 0; ret = 0; thread = 0; kind = DequeueEmpty }
 
 module _ (test : Operation → Bool) (operations : List Operation) (i : ℕ) (o : Operation) (at : slice_get operations i ≡ Some o) where
   one_further : filter test (take (i + 1) operations) ≡ filter test (take i operations) ++ cond (test o) (o ∷ []) []

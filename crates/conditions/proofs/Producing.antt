@@ -22,7 +22,7 @@ use Rattle.history_merge.specs.Operations.{enqueued_value}
 use Rattle.history_merge.proofs.Distinct.{contains_cons, found_first, not_in_none, place_of, contains_at, same_value_call}
 use Rattle.value_match.specs.Times.{initial_enqueue}
 use Rattle.value_match.proofs.Lists.{keeps, kept, mapped_from, mapped_to, one_deeper}
-use Rattle.value_match.proofs.ToldPlaces.{enqueue_place, enqueue_stands, few_initial, mapped_option}
+use Rattle.value_match.proofs.HistoryPlaces.{enqueue_place, enqueue_stands, few_initial, mapped_option}
 use Rattle.verdicts.specs.Selection.{selects, value_of}
 use Rattle.conditions.specs.declared.producer.Emptiness.{Emptiness}
 use Rattle.conditions.specs.declared.producer.Emptiness.TheVariants.{Strict, Weak}

@@ -3,7 +3,7 @@ use Rattle.std.proofs.Common.{◌≡◌, ℕ, zero, suc, ◌<◌, inl, inr, Bool
 use Rattle.std.specs.Prelude.{Contains, filter, slice_get}
 use Rattle.history_merge.specs.declared.operation.Operation.{Operation}
 use Rattle.history_merge.specs.declared.operation.OpKind.{OpKind}
-use Rattle.history_merge.specs.declared.operation.OpKind.TheVariants.{Deq, Empty, Enq, Not}
+use Rattle.history_merge.specs.declared.operation.OpKind.TheVariants.{Dequeue, DequeueEmpty, Enqueue, EnqueueFailed}
 use Rattle.history_merge.specs.Initial.{Contents}
 use Rattle.history_merge.proofs.Distinct.{contains_at, place_of}
 use Rattle.value_match.proofs.Lists.{passed_filter, passes_filter}
@@ -77,23 +77,23 @@ module _ (values empties : ℕ → Bool) (whole : Contents) where
 
   leaves_in_whole : (line : ClaimLine) (v : ℕ) (deq : List ClaimLine) → values v ≡ true → LeavesAfter part.initial part.operations line v deq
       → LeavesAfter whole.initial whole.operations line v deq
-  leaves_in_whole line v [] selected leaves = none_in_whole (Deq v) v refl selected leaves
-  leaves_in_whole line v (deq ∷ []) selected leaves = (did_in_whole deq (Deq v) leaves.0, precedes_in_whole line deq leaves.1)
+  leaves_in_whole line v [] selected leaves = none_in_whole (Dequeue v) v refl selected leaves
+  leaves_in_whole line v (deq ∷ []) selected leaves = (did_in_whole deq (Dequeue v) leaves.0, precedes_in_whole line deq leaves.1)
   leaves_in_whole line v (deq ∷ next ∷ rest) selected leaves = absurd leaves
 
   fresh_in_whole : (lines : List ClaimLine) → ShowsFresh part.initial part.operations lines → ShowsFresh whole.initial whole.operations lines
   fresh_in_whole [] shown = absurd shown
   fresh_in_whole (deq ∷ []) shown =
       let v = shown.0 in
-      let selected = value_selected deq (Deq v) v refl shown.1 in
-      (v, did_in_whole deq (Deq v) shown.1, none_in_whole (Enq v) v refl selected shown.2, none_in_whole (Not v) v refl selected shown.3)
+      let selected = value_selected deq (Dequeue v) v refl shown.1 in
+      (v, did_in_whole deq (Dequeue v) shown.1, none_in_whole (Enqueue v) v refl selected shown.2, none_in_whole (EnqueueFailed v) v refl selected shown.3)
   fresh_in_whole (deq ∷ enq ∷ []) shown =
       let v = shown.0 in (
         v,
-        did_in_whole deq (Deq v) shown.1,
+        did_in_whole deq (Dequeue v) shown.1,
         elim shown.2 [
-          | inl refused ↦ inl (did_in_whole enq (Not v) refused)
-          | inr late ↦ inr (did_in_whole enq (Enq v) late.0, precedes_in_whole deq enq late.1)
+          | inl refused ↦ inl (did_in_whole enq (EnqueueFailed v) refused)
+          | inr late ↦ inr (did_in_whole enq (Enqueue v) late.0, precedes_in_whole deq enq late.1)
         ],
       )
   fresh_in_whole (deq ∷ enq ∷ next ∷ rest) shown = absurd shown
@@ -104,7 +104,7 @@ module _ (values empties : ℕ → Bool) (whole : Contents) where
   repeat_in_whole (enq ∷ first ∷ []) shown = absurd shown
   repeat_in_whole (enq ∷ first ∷ second ∷ []) shown =
       let v = shown.0 in
-      (v, did_in_whole enq (Enq v) shown.1, did_in_whole first (Deq v) shown.2, did_in_whole second (Deq v) shown.3, shown.4)
+      (v, did_in_whole enq (Enqueue v) shown.1, did_in_whole first (Dequeue v) shown.2, did_in_whole second (Dequeue v) shown.3, shown.4)
   repeat_in_whole (enq ∷ first ∷ second ∷ next ∷ rest) shown = absurd shown
 
   order_in_whole : (lines : List ClaimLine) → ShowsOrder part.initial part.operations lines → ShowsOrder whole.initial whole.operations lines
@@ -116,16 +116,16 @@ module _ (values empties : ℕ → Bool) (whole : Contents) where
       let b = shown.1 in (
         a,
         b,
-        did_in_whole enq_a (Enq a) shown.2,
-        did_in_whole enq_b (Enq b) shown.3,
-        did_in_whole deq_b (Deq b) shown.4,
+        did_in_whole enq_a (Enqueue a) shown.2,
+        did_in_whole enq_b (Enqueue b) shown.3,
+        did_in_whole deq_b (Dequeue b) shown.4,
         precedes_in_whole enq_a enq_b shown.5,
-        leaves_in_whole deq_b a deq_a (value_selected enq_a (Enq a) a refl shown.2) shown.6,
+        leaves_in_whole deq_b a deq_a (value_selected enq_a (Enqueue a) a refl shown.2) shown.6,
       )
 
   entered_in_whole : (line enq : ClaimLine) (v : ℕ) → EnqueuedBefore part.initial part.operations line enq v
       → EnqueuedBefore whole.initial whole.operations line enq v
-  entered_in_whole line enq v entered = (did_in_whole enq (Enq v) entered.0, precedes_in_whole enq line entered.1)
+  entered_in_whole line enq v entered = (did_in_whole enq (Enqueue v) entered.0, precedes_in_whole enq line entered.1)
 
   cover_in_whole : (empty line : ClaimLine) (lines : List ClaimLine) → LinesCover part.initial part.operations empty line lines
       → LinesCover whole.initial whole.operations empty line lines
@@ -133,23 +133,23 @@ module _ (values empties : ℕ → Bool) (whole : Contents) where
   cover_in_whole empty line (enq ∷ []) covers = (
     covers.0,
     entered_in_whole line enq covers.0 covers.1,
-    leaves_in_whole empty covers.0 [] (value_selected enq (Enq covers.0) covers.0 refl covers.1.0) covers.2,
+    leaves_in_whole empty covers.0 [] (value_selected enq (Enqueue covers.0) covers.0 refl covers.1.0) covers.2,
   )
   cover_in_whole empty line (enq ∷ deq ∷ []) covers = (
     covers.0,
     entered_in_whole line enq covers.0 covers.1,
-    leaves_in_whole empty covers.0 (deq ∷ []) (value_selected enq (Enq covers.0) covers.0 refl covers.1.0) covers.2,
+    leaves_in_whole empty covers.0 (deq ∷ []) (value_selected enq (Enqueue covers.0) covers.0 refl covers.1.0) covers.2,
   )
   cover_in_whole empty line (enq ∷ deq ∷ next ∷ rest) covers = (
     covers.0,
     entered_in_whole line enq covers.0 covers.1,
-    did_in_whole deq (Deq covers.0) covers.2,
+    did_in_whole deq (Dequeue covers.0) covers.2,
     cover_in_whole empty deq (next ∷ rest) covers.3,
   )
 
   witness_in_whole : (lines : List ClaimLine) → ShowsWitness part.initial part.operations lines → ShowsWitness whole.initial whole.operations lines
   witness_in_whole [] shown = absurd shown
-  witness_in_whole (empty ∷ cover) shown = (did_in_whole empty Empty shown.0, cover_in_whole empty empty cover shown.1)
+  witness_in_whole (empty ∷ cover) shown = (did_in_whole empty DequeueEmpty shown.0, cover_in_whole empty empty cover shown.1)
 
   shown_in_whole : (kind : ViolationKind) (lines : List ClaimLine) → ShowsIn part kind lines → ShowsIn whole kind lines
   shown_in_whole VFresh lines shown = fresh_in_whole lines shown

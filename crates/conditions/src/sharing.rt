@@ -63,13 +63,13 @@ pub(crate) fn share_of(
         → result ≡ share_of whole emptiness kind }
 {
     match kind {
-        OpKind::Enq(value) | OpKind::Not(value) => {
+        OpKind::Enqueue(value) | OpKind::EnqueueFailed(value) => {
             share_of_value(producers.producer_of(guesses, slot_of(value, 0), value))
         }
-        OpKind::Deq(value) => {
+        OpKind::Dequeue(value) => {
             share_of_value(producers.producer_of(guesses, slot_of(value, 1), value))
         }
-        OpKind::Empty => match emptiness {
+        OpKind::DequeueEmpty => match emptiness {
             Emptiness::Strict => Share::Everybody,
             Emptiness::Weak => Share::Nobody,
         },

@@ -25,8 +25,8 @@ fn has_value(operations: &Operations<'_>, place: OpId) -> bool
 {
     match operations.get(place) {
         Some(operation) => match operation.kind {
-            OpKind::Enq(_) | OpKind::Deq(_) | OpKind::Not(_) => true,
-            OpKind::Empty => false,
+            OpKind::Enqueue(_) | OpKind::Dequeue(_) | OpKind::EnqueueFailed(_) => true,
+            OpKind::DequeueEmpty => false,
         },
         None => false,
     }

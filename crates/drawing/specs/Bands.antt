@@ -14,14 +14,14 @@ use Rattle.drawing.specs.Claim.{line_kind, line_call, line_return}
 use Rattle.drawing.specs.Names.{value_text}
 use Rattle.drawing.specs.declared.bands.Band.{Band}
 use Rattle.drawing.specs.declared.bands.Head.{Head}
-use Rattle.drawing.specs.declared.bands.Head.TheVariants.{SurelyIn, NotIn, Dequeued, InAndOut, SaidEmpty, InOrOut}
+use Rattle.drawing.specs.declared.bands.Head.TheVariants.{DefinitelyIn, NotIn, Dequeued, InAndOut, SaidEmpty, InOrOut}
 
 -- the value of an operation, or 0 if it has none
 abbrev pub value_of : OpKind → ℕ
-value_of (kind.Enq v) = v
-value_of (kind.Deq v) = v
-value_of (kind.Not v) = v
-value_of kind.Empty = 0
+value_of (kind.Enqueue v) = v
+value_of (kind.Dequeue v) = v
+value_of (kind.EnqueueFailed v) = v
+value_of kind.DequeueEmpty = 0
 
 -- the value of a line
 abbrev pub line_value : ClaimLine → ℕ
@@ -30,7 +30,7 @@ line_value line = value_of (line_kind line)
 -- the value is definitely in the queue from the return of its enqueue, or from the top if it is an initial value, to
 -- the call of its dequeue, or to the bottom if it has none
 abbrev pub sure_until : ClaimLine → Option ℕ → Band
-sure_until enq last = record { head = SurelyIn (line_value enq); first = line_return enq; last = last }
+sure_until enq last = record { head = DefinitelyIn (line_value enq); first = line_return enq; last = last }
 
 -- the time from one event to another; from the top if there is no first one
 abbrev pub time_of : Head → Option ℕ → Option ℕ → Band
@@ -38,7 +38,7 @@ time_of head first last = record { head = head; first = first; last = last }
 
 -- the call of a successful enqueue
 abbrev pub call_if_taken : ClaimLine → OpKind → Option ℕ
-call_if_taken line (kind.Enq v) = line_call line
+call_if_taken line (kind.Enqueue v) = line_call line
 call_if_taken line _ = None
 
 -- the call of a successful enqueue in the first of these lines
@@ -78,7 +78,7 @@ bands_of (No kind lines) = bands_by lines kind
 
 -- the words above a band
 abbrev pub head_text : Head → List ℕ
-head_text (SurelyIn v) = concat (value_text v ∷ codes " surely in" ∷ [])
+head_text (DefinitelyIn v) = concat (value_text v ∷ codes " surely in" ∷ [])
 head_text (NotIn v) = concat (value_text v ∷ codes " not in" ∷ [])
 head_text (Dequeued v) = concat (value_text v ∷ codes " dequeued" ∷ [])
 head_text (InAndOut v) = concat (value_text v ∷ codes " in and out" ∷ [])
@@ -88,7 +88,7 @@ head_text (InOrOut v) = concat (value_text v ∷ codes " in or out" ∷ [])
 -- the form of a band: for a value definitely in the queue, for one definitely not in it, and for the time beside
 -- them; a column without a band has none
 abbrev pub form_words : Head → List ℕ → List ℕ → List ℕ → List ℕ
-form_words (SurelyIn v) sure absent time = sure
+form_words (DefinitelyIn v) sure absent time = sure
 form_words (NotIn v) sure absent time = absent
 form_words (Dequeued v) sure absent time = time
 form_words (InAndOut v) sure absent time = time

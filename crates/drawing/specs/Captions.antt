@@ -30,7 +30,7 @@ line_text l = value_text (line_value l)
 
 -- the reason why a value was not in the queue, by its enqueue
 abbrev pub fresh_reason : OpKind → List ℕ
-fresh_reason (kind.Enq v) = line (codes " was dequeued (1), but its enqueue (2) was called only afterwards.")
+fresh_reason (kind.Enqueue v) = line (codes " was dequeued (1), but its enqueue (2) was called only afterwards.")
 fresh_reason _ = line (codes " was dequeued (1), but its enqueue (2) was not taken.")
 
 -- the reason why a value was not in the queue, by these lines, which show its enqueue or none

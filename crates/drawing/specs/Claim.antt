@@ -2,7 +2,7 @@
 use Rattle.std.specs.Prelude.{ℕ, Option, Some, None, List, [], map, length}
 use Rattle.history_merge.specs.declared.operation.Operation.{Operation}
 use Rattle.history_merge.specs.declared.operation.OpKind.{OpKind}
-use Rattle.history_merge.specs.declared.operation.OpKind.TheVariants.{Enq}
+use Rattle.history_merge.specs.declared.operation.OpKind.TheVariants.{Enqueue}
 use Rattle.claims.specs.declared.claimed.ClaimLine.{ClaimLine}
 use Rattle.claims.specs.declared.claimed.ClaimLine.TheVariants.{Op, Initial}
 use Rattle.claims.specs.declared.claimed.Claimed.{Claimed}
@@ -31,7 +31,7 @@ shown_by (No kind lines) = lines
 -- the kind of a line's operation; an initial value counts as enqueued
 abbrev pub line_kind : ClaimLine → OpKind
 line_kind (Op o) = o.kind
-line_kind (Initial v) = Enq v
+line_kind (Initial v) = Enqueue v
 
 -- the ticket of a line's call; an initial value was there before all tickets
 abbrev pub line_call : ClaimLine → Option ℕ

@@ -49,10 +49,10 @@ drawn_operations history (No kind lines) (Some n) =
 
 -- an operation has this value: it was called with it, or returned it
 abbrev pub has_value : ℕ → OpKind → Bool
-has_value v (kind.Enq w) = nat_eq w v
-has_value v (kind.Deq w) = nat_eq w v
-has_value v (kind.Not w) = nat_eq w v
-has_value v kind.Empty = false
+has_value v (kind.Enqueue w) = nat_eq w v
+has_value v (kind.Dequeue w) = nat_eq w v
+has_value v (kind.EnqueueFailed w) = nat_eq w v
+has_value v kind.DequeueEmpty = false
 
 -- the line is this initial value
 abbrev pub is_initial : ℕ → ClaimLine → Bool

@@ -28,17 +28,17 @@ value_in full v = if full then decimal v else value_text v
 
 -- the word of a kind of operation
 abbrev pub kind_word : OpKind → List ℕ
-kind_word (kind.Enq v) = codes "enq"
-kind_word (kind.Deq v) = codes "deq"
-kind_word (kind.Not v) = codes "not"
-kind_word kind.Empty = codes "empty"
+kind_word (kind.Enqueue v) = codes "enq"
+kind_word (kind.Dequeue v) = codes "deq"
+kind_word (kind.EnqueueFailed v) = codes "not"
+kind_word kind.DequeueEmpty = codes "empty"
 
 -- a blank and the value of an operation, in full or by its name; nothing if it has none
 abbrev pub value_after : Bool → OpKind → List ℕ
-value_after full (kind.Enq v) = codes " " ++ value_in full v
-value_after full (kind.Deq v) = codes " " ++ value_in full v
-value_after full (kind.Not v) = codes " " ++ value_in full v
-value_after full kind.Empty = []
+value_after full (kind.Enqueue v) = codes " " ++ value_in full v
+value_after full (kind.Dequeue v) = codes " " ++ value_in full v
+value_after full (kind.EnqueueFailed v) = codes " " ++ value_in full v
+value_after full kind.DequeueEmpty = []
 
 -- a kind of operation and its value, in full or by its name
 abbrev pub told : Bool → OpKind → List ℕ

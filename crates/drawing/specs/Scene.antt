@@ -19,7 +19,7 @@ use Rattle.drawing.specs.Pending.{is_added}
 use Rattle.drawing.specs.declared.bands.Band.{Band}
 use Rattle.drawing.specs.declared.scene.Row.{Row}
 use Rattle.drawing.specs.declared.scene.Row.TheVariants.{Head, Initial, ValuesLeftOut, Ticket, LeftOut, Effect}
-use Rattle.drawing.specs.declared.sheet.Scene.{Scene}
+use Rattle.drawing.specs.declared.canvas.Scene.{Scene}
 
 -- the content of a picture: the drawn initial values and operations, the claim, their threads, bands and rows, and
 -- the ticket from which returns were added, if some were
@@ -156,7 +156,7 @@ ticket_width added_from rows = fold (λ widest r. max widest (length (ticket_wor
 -- whether the value of a line goes in or out, by the kind of its operation
 abbrev pub way : Option OpKind → List ℕ
 way None = []
-way (Some (kind.Enq v)) = codes "in"
+way (Some (kind.Enqueue v)) = codes "in"
 way (Some _) = codes "out"
 
 -- the word of the line of a row, if its value was dequeued twice

@@ -9,15 +9,15 @@ ghost use Rattle.drawing.specs.Bands.{bands_by, bands_of, head_text, form_words,
 use crate::claim::{line_call, line_kind, line_return};
 use crate::line::Added;
 use crate::names::push_value;
+use claims::{ClaimLine, Claimed, ViolationKind};
 use history_merge::OpKind;
 use std::alloc::{AllocError, Global};
-use claims::{ClaimLine, Claimed, ViolationKind};
 
 /// The head of a band, shown above it.
 #[derive(Clone, Copy)]
 pub enum Head {
     /// This value was definitely in the queue.
-    SurelyIn(u64),
+    DefinitelyIn(u64),
     /// This value was definitely not in the queue.
     NotIn(u64),
     /// This value was dequeued within the band.
@@ -45,15 +45,15 @@ pub(crate) fn line_value(line: ClaimLine) -> u64
     ensures { result ≡ line_value line }
 {
     match line_kind(line) {
-        OpKind::Enq(value) | OpKind::Deq(value) | OpKind::Not(value) => value,
-        OpKind::Empty => 0,
+        OpKind::Enqueue(value) | OpKind::Dequeue(value) | OpKind::EnqueueFailed(value) => value,
+        OpKind::DequeueEmpty => 0,
     }
 }
 
 fn sure_until(enq: ClaimLine, last: Option<u64>) -> Band
     ensures { result ≡ sure_until enq last }
 {
-    time_of(Head::SurelyIn(line_value(enq)), line_return(enq), last)
+    time_of(Head::DefinitelyIn(line_value(enq)), line_return(enq), last)
 }
 
 fn time_of(head: Head, first: Option<u64>, last: Option<u64>) -> Band
@@ -68,7 +68,7 @@ fn enqueue_call(lines: &[ClaimLine]) -> Option<u64>
     match lines {
         [] => None,
         [enq, ..] => match line_kind(*enq) {
-            OpKind::Enq(_) => line_call(*enq),
+            OpKind::Enqueue(_) => line_call(*enq),
             _ => None,
         },
     }
@@ -157,7 +157,7 @@ pub fn head_words(alloc: Global, head: Head) -> Result<Vec<u8>, AllocError>
 {
     let mut words = Vec::new(alloc);
     match head {
-        Head::SurelyIn(value) => push_named(&mut words, value, b" surely in")?,
+        Head::DefinitelyIn(value) => push_named(&mut words, value, b" surely in")?,
         Head::NotIn(value) => push_named(&mut words, value, b" not in")?,
         Head::Dequeued(value) => push_named(&mut words, value, b" dequeued")?,
         Head::InAndOut(value) => push_named(&mut words, value, b" in and out")?,
@@ -178,7 +178,7 @@ pub fn form_words(
     ensures { result.now ≡ form_words head sure.now absent.now time.now }
 {
     match head {
-        Head::SurelyIn(_) => sure,
+        Head::DefinitelyIn(_) => sure,
         Head::NotIn(_) => absent,
         Head::Dequeued(_) | Head::InAndOut(_) | Head::SaidEmpty => time,
         Head::InOrOut(_) => b"",

@@ -10,8 +10,8 @@ use crate::claim::{line_call, line_kind, line_return};
 use crate::columns::MOST_DRAWN;
 use crate::line::{Added, push_moment, push_number};
 use crate::pending::is_pending;
-use history_merge::OpKind;
 use claims::{ClaimLine, Claimed, ViolationKind};
+use history_merge::OpKind;
 
 /// The caption of a `YES`.
 pub(crate) const YES_CAPTION: &[u8] =
@@ -44,7 +44,7 @@ fn fresh_words(lines: &[ClaimLine]) -> &'static [u8]
     match lines {
         [] => b" was dequeued (1), but nobody ever enqueued it.\n",
         [enq, ..] => match line_kind(*enq) {
-            OpKind::Enq(_) => {
+            OpKind::Enqueue(_) => {
                 b" was dequeued (1), but its enqueue (2) was called only afterwards.\n"
             }
             _ => b" was dequeued (1), but its enqueue (2) was not taken.\n",

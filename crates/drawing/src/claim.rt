@@ -2,8 +2,8 @@
 ghost use Rattle.std.specs.Prelude.{◌≡◌, ◌≤◌, length};
 ghost use Rattle.drawing.specs.Claim.{count_of_lines, order_of, shown_by, line_kind, line_call, line_return};
 
-use history_merge::{OpKind, Operation};
 use claims::{ClaimLine, Claimed};
+use history_merge::{OpKind, Operation};
 
 /// Returns the number of lines of a claim.
 pub fn count_of_lines(claimed: &Claimed) -> usize
@@ -42,7 +42,7 @@ pub(crate) fn line_kind(line: ClaimLine) -> OpKind
 {
     match line {
         ClaimLine::Op(operation) => operation.kind,
-        ClaimLine::Initial(value) => OpKind::Enq(value),
+        ClaimLine::Initial(value) => OpKind::Enqueue(value),
     }
 }
 

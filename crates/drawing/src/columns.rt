@@ -5,15 +5,15 @@ ghost use Rattle.drawing.specs.Terminal.{lane_place, columns_of};
 ghost use Rattle.drawing.specs.Scene.{scene_on};
 ghost use Rattle.drawing.specs.Claim.{count_of_lines};
 
+use crate::canvas::{Canvas, Scene};
 use crate::claim::count_of_lines;
 use crate::names::{initial_label_len, value_len};
 use crate::scene::ticket_width;
-use crate::sheet::{Scene, Sheet};
+use claims::Claimed;
 use event_records::{Event, MAX_THREAD, MAX_THREADS};
 use history_merge::{History, OpKind, Operation};
 use itoa::Buffer;
 use std::alloc::{AllocError, Global};
-use claims::Claimed;
 
 /// The maximum number of operations of a history, and of lines of a claim, that are drawn.
 pub const MOST_DRAWN: usize = 400;
@@ -80,8 +80,9 @@ fn label_len(kind: OpKind) -> u8
     ensures { result ≡ length (label kind) }
 {
     match kind {
-        OpKind::Enq(value) | OpKind::Deq(value) | OpKind::Not(value) => 4 + value_len(value),
-        OpKind::Empty => 5,
+        OpKind::Enqueue(value) | OpKind::Dequeue(value) | OpKind::EnqueueFailed(value) => 4
+            + value_len(value),
+        OpKind::DequeueEmpty => 5,
     }
 }
 
@@ -110,7 +111,7 @@ pub(crate) fn lane_place(lane: usize, before: usize) -> usize
 }
 
 /// Lays out a scene in columns.
-pub(crate) fn sheet_of<'a>(alloc: Global, scene: &'a Scene<'a>) -> Sheet<'a>
+pub(crate) fn canvas_of<'a>(alloc: Global, scene: &'a Scene<'a>) -> Canvas<'a>
     requires { count_of_lines scene.now.claimed.now ≤ MOST_DRAWN }
     ensures columns { result.columns ≡ columns_of (scene_on scene.now) }
     ensures scene { result.scene.now ≡ scene.now }
@@ -136,7 +137,7 @@ pub(crate) fn sheet_of<'a>(alloc: Global, scene: &'a Scene<'a>) -> Sheet<'a>
         lane,
         label: ticket + 2 + room + 2 + lane_place(lane, lanes).max(6),
     };
-    Sheet {
+    Canvas {
         alloc,
         columns,
         scene,

@@ -8,10 +8,10 @@ ghost use Rattle.drawing.specs.Drawn.{has_value, is_initial, is_drawn_initial, d
 
 use crate::claim::shown_by;
 use crate::columns::events_of;
+use claims::{ClaimLine, Claimed};
 use event_records::Event;
 use history_merge::{History, OpKind, Operation, Operations};
 use std::alloc::{AllocError, Global};
-use claims::{ClaimLine, Claimed};
 
 /// The number of events before the call of an operation, and before its return.
 #[derive(Clone, Copy)]
@@ -121,8 +121,9 @@ fn has_value(value: u64, kind: OpKind) -> bool
     ensures { result ≡ has_value value kind }
 {
     match kind {
-        OpKind::Enq(other) | OpKind::Deq(other) | OpKind::Not(other) => other == value,
-        OpKind::Empty => false,
+        OpKind::Enqueue(other) | OpKind::Dequeue(other) | OpKind::EnqueueFailed(other) => other
+            == value,
+        OpKind::DequeueEmpty => false,
     }
 }
 

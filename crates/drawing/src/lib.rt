@@ -2,6 +2,7 @@
 #![tactic(auto)]
 
 mod bands;
+mod canvas;
 mod captions;
 mod claim;
 mod columns;
@@ -12,11 +13,11 @@ mod lookup;
 mod names;
 mod pending;
 mod scene;
-mod sheet;
 mod signs;
 mod terminal;
 
 pub use bands::{Band, Head, form_words, head_words};
+pub use canvas::Scene;
 pub use captions::{headline, push_caption};
 pub use claim::{count_of_lines, shown_by};
 pub use columns::{Columns, MOST_DRAWN, digits, label_width};
@@ -31,6 +32,5 @@ pub use lookup::{place_in, place_of};
 pub use names::initial_label;
 pub use pending::is_pending;
 pub use scene::{Row, lanes_before, row_number, scene_of, ticket_width, ticket_words, way_in};
-pub use sheet::Scene;
 pub use signs::{Sign, meaning, signs_of};
 pub use terminal::{kind_word, label_of, numbered, push_told, terminal_picture};

@@ -6,8 +6,8 @@ ghost use Rattle.drawing.specs.Claim.{count_of_lines};
 
 use crate::pending::is_pending;
 use crate::scene::Row;
-use history_merge::Operation;
 use claims::{ClaimLine, Claimed};
+use history_merge::Operation;
 
 /// Returns whether an operation is of this thread, was called by this ticket, and hasn't returned before it, or never
 /// returned.

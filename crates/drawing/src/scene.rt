@@ -6,17 +6,17 @@ ghost use Rattle.drawing.specs.Scene.{left_out_rows, rows_after, rows_of, scene_
 ghost use Rattle.drawing.specs.Scene.{stands_above, row_number, ticket_words, ticket_width, lanes_before, way_in};
 
 use crate::bands::{bands_of, gap_time};
+use crate::canvas::Scene;
 use crate::claim::{line_kind, order_of};
 use crate::columns::{digits, events_of, threads_of};
 use crate::drawn::drawn_initial;
 use crate::line::{Added, push_number};
 use crate::lookup::line_in;
 use crate::pending::is_added;
-use crate::sheet::Scene;
+use claims::{Claimed, ViolationKind};
 use event_records::{Event, MAX_THREADS};
 use history_merge::{History, OpKind, Operation};
 use std::alloc::{AllocError, Global};
-use claims::{Claimed, ViolationKind};
 
 /// A row of a picture.
 #[derive(Clone, Copy)]
@@ -289,7 +289,7 @@ pub fn way_in(claimed: &Claimed, row: Row) -> &'static [u8]
         Claimed::No(ViolationKind::VRepeat, lines) => {
             match line_in(lines.as_slice(), row).map(line_kind) {
                 None => b"",
-                Some(OpKind::Enq(_)) => b"in",
+                Some(OpKind::Enqueue(_)) => b"in",
                 Some(_) => b"out",
             }
         }

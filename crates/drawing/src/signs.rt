@@ -3,12 +3,12 @@ ghost use Rattle.std.specs.Prelude.{◌≡◌, ◌++◌, IfOk, OnOk};
 ghost use Rattle.drawing.specs.Signs.{number_signs, band_signs, operation_signs, signs_of, meaning};
 ghost use Rattle.drawing.specs.Scene.{scene_on};
 
+use crate::canvas::Scene;
 use crate::drawn::is_any_away;
 use crate::line::Added;
 use crate::pending::is_any_pending;
-use crate::sheet::Scene;
-use std::alloc::{AllocError, Global};
 use claims::{Claimed, ViolationKind};
+use std::alloc::{AllocError, Global};
 
 /// A sign of a picture that the legend explains.
 #[derive(Clone, Copy)]

@@ -14,21 +14,21 @@ ghost use Rattle.drawing.specs.Terminal.{strokes, under, thread_digits, lane_nam
 ghost use Rattle.drawing.specs.Terminal.{sign_text, sign_line, effect_meaning, legend, words, terminal_picture};
 
 use crate::bands::{form_at, head_words};
+use crate::canvas::{Canvas, Scene};
 use crate::captions::{headline, push_caption};
 use crate::claim::{count_of_lines, shown_by};
-use crate::columns::{MOST_DRAWN, ROWS_UNDER_HEADS, digits, lane_place, sheet_of};
+use crate::columns::{MOST_DRAWN, ROWS_UNDER_HEADS, canvas_of, digits, lane_place};
 use crate::drawn::is_away;
 use crate::line::{Added, place, push_line, push_number};
 use crate::lookup::{called_at, place_in, under_way};
 use crate::names::{initial_label, push_value};
 use crate::pending::is_pending;
 use crate::scene::{Row, gap_of, lanes_before, ticket_words, way_in};
-use crate::sheet::{Scene, Sheet};
 use crate::signs::{Sign, meaning, signs_of};
+use claims::Claimed;
 use history_merge::{OpKind, Operation};
 use itoa::Buffer;
 use std::alloc::{AllocError, Global};
-use claims::Claimed;
 
 /// The meaning of the forms in the lanes.
 pub(crate) const LANE_MEANINGS: &[u8] = b"[    call of an operation\n]    its return\n";
@@ -38,10 +38,10 @@ pub fn kind_word(kind: OpKind) -> &'static [u8]
     ensures { result.now ≡ kind_word kind }
 {
     match kind {
-        OpKind::Enq(_) => b"enq",
-        OpKind::Deq(_) => b"deq",
-        OpKind::Not(_) => b"not",
-        OpKind::Empty => b"empty",
+        OpKind::Enqueue(_) => b"enq",
+        OpKind::Dequeue(_) => b"deq",
+        OpKind::EnqueueFailed(_) => b"not",
+        OpKind::DequeueEmpty => b"empty",
     }
 }
 
@@ -51,7 +51,7 @@ pub fn push_told(text: &mut Vec<u8>, full: bool, kind: OpKind) -> Added
 {
     text.extend_from_slice(kind_word(kind))?;
     match kind {
-        OpKind::Enq(value) | OpKind::Deq(value) | OpKind::Not(value) => {
+        OpKind::Enqueue(value) | OpKind::Dequeue(value) | OpKind::EnqueueFailed(value) => {
             text.extend_from_slice(b" ")?;
             if full {
                 push_number(text, value)
@@ -59,7 +59,7 @@ pub fn push_told(text: &mut Vec<u8>, full: bool, kind: OpKind) -> Added
                 push_value(text, value)
             }
         }
-        OpKind::Empty => Ok(()),
+        OpKind::DequeueEmpty => Ok(()),
     }
 }
 
@@ -111,89 +111,89 @@ fn returns_at(scene: &Scene<'_>, ticket: u64, operation: Operation) -> bool
 }
 
 /// Returns the sign of an operation in its lane: a call with its number, a return, or a bar in between.
-fn event_sign(sheet: &Sheet<'_>, ticket: u64, operation: Operation) -> Result<Vec<u8>, AllocError>
+fn event_sign(canvas: &Canvas<'_>, ticket: u64, operation: Operation) -> Result<Vec<u8>, AllocError>
     ensures { IfOk result
-        (λ word. word.items ≡ event_sign sheet.now.columns (scene_on sheet.now.scene.now) ticket operation) }
+        (λ word. word.items ≡ event_sign canvas.now.columns (scene_on canvas.now.scene.now) ticket operation) }
 {
-    let claimed = sheet.scene.claimed;
+    let claimed = canvas.scene.claimed;
     let away = is_away(claimed, operation);
     if operation.call == ticket {
-        let narrow = sheet.columns.lane == 1;
+        let narrow = canvas.columns.lane == 1;
         let shown = if narrow { &[] } else { shown_by(claimed) };
-        let number = number_at(sheet.alloc, place_in(shown, Row::Ticket(operation.call)))?;
-        let mut word = Vec::from_slice(sheet.alloc, one_of(away, b"(", b"["))?;
+        let number = number_at(canvas.alloc, place_in(shown, Row::Ticket(operation.call)))?;
+        let mut word = Vec::from_slice(canvas.alloc, one_of(away, b"(", b"["))?;
         word.extend_from_slice(number.as_slice())?;
         Ok(word)
-    } else if returns_at(sheet.scene, ticket, operation) {
-        Vec::from_slice(sheet.alloc, one_of(away, b")", b"]"))
+    } else if returns_at(canvas.scene, ticket, operation) {
+        Vec::from_slice(canvas.alloc, one_of(away, b")", b"]"))
     } else {
-        Vec::from_slice(sheet.alloc, one_of(away, b":", b"|"))
+        Vec::from_slice(canvas.alloc, one_of(away, b":", b"|"))
     }
 }
 
 /// Returns the sign in a lane in a row, where `under` is the operation that is under way.
-fn lane_sign(sheet: &Sheet<'_>, row: Row, under: Option<Operation>) -> Result<Vec<u8>, AllocError>
-    ensures { IfOk result (λ word. word.items ≡ lane_sign sheet.now.columns (scene_on sheet.now.scene.now) row under) }
+fn lane_sign(canvas: &Canvas<'_>, row: Row, under: Option<Operation>) -> Result<Vec<u8>, AllocError>
+    ensures { IfOk result (λ word. word.items ≡ lane_sign canvas.now.columns (scene_on canvas.now.scene.now) row under) }
 {
     match (row, under) {
-        (Row::Ticket(ticket), Some(operation)) => event_sign(sheet, ticket, operation),
+        (Row::Ticket(ticket), Some(operation)) => event_sign(canvas, ticket, operation),
         (Row::LeftOut(_, _), Some(operation)) => {
-            let away = is_away(sheet.scene.claimed, operation);
-            Vec::from_slice(sheet.alloc, one_of(away, b":", b"|"))
+            let away = is_away(canvas.scene.claimed, operation);
+            Vec::from_slice(canvas.alloc, one_of(away, b":", b"|"))
         }
         (Row::Effect(effect, number, point), Some(operation)) => {
             let mut buffer = Buffer::new();
             let number = buffer.format(number).as_bytes();
             let sign: &[u8] = if operation.call != effect.call {
-                if returns_at(sheet.scene, point, operation) {
+                if returns_at(canvas.scene, point, operation) {
                     b""
                 } else {
                     b"|"
                 }
-            } else if sheet.columns.lane == 1 {
+            } else if canvas.columns.lane == 1 {
                 b"*"
             } else {
                 number
             };
-            Vec::from_slice(sheet.alloc, sign)
+            Vec::from_slice(canvas.alloc, sign)
         }
-        _ => Ok(Vec::new(sheet.alloc)),
+        _ => Ok(Vec::new(canvas.alloc)),
     }
 }
 
 /// Returns the column of a thread's lane.
-fn lane_column(sheet: &Sheet<'_>, thread: u8) -> usize
-    ensures { result ≡ lane_column sheet.now.columns (scene_on sheet.now.scene.now).threads thread }
+fn lane_column(canvas: &Canvas<'_>, thread: u8) -> usize
+    ensures { result ≡ lane_column canvas.now.columns (scene_on canvas.now.scene.now).threads thread }
 {
-    let before = lanes_before(sheet.scene.threads.as_slice(), thread);
-    sheet.columns.lanes + lane_place(sheet.columns.lane, before)
+    let before = lanes_before(canvas.scene.threads.as_slice(), thread);
+    canvas.columns.lanes + lane_place(canvas.columns.lane, before)
 }
 
 /// Places the signs in the lanes of a row.
-fn place_lanes(line: &mut Vec<u8>, sheet: &Sheet<'_>, row: Row) -> Added
+fn place_lanes(line: &mut Vec<u8>, canvas: &Canvas<'_>, row: Row) -> Added
     ensures { OnOk result
-        (line.new.items ≡ with_words line.old.items (lane_words sheet.now.columns (scene_on sheet.now.scene.now) row)) }
+        (line.new.items ≡ with_words line.old.items (lane_words canvas.now.columns (scene_on canvas.now.scene.now) row)) }
 {
-    let operations = sheet.scene.operations.as_slice();
-    let threads = sheet.scene.threads.as_slice();
+    let operations = canvas.scene.operations.as_slice();
+    let threads = canvas.scene.threads.as_slice();
     let ticket = gap_of(row).unwrap_or(0);
     for thread in threads {
-        let operation = under_way(sheet.scene.added_from, operations, *thread, ticket);
-        let word = lane_sign(sheet, row, operation)?;
-        place(line, lane_column(sheet, *thread), word.as_slice())?;
+        let operation = under_way(canvas.scene.added_from, operations, *thread, ticket);
+        let word = lane_sign(canvas, row, operation)?;
+        place(line, lane_column(canvas, *thread), word.as_slice())?;
     }
     Ok(())
 }
 
 /// Places the bands that hold a gap: the one just after a ticket, or the one before all tickets.
 #[tactic(auto, using(crate::proofs::Loops::steps))]
-fn place_bands(line: &mut Vec<u8>, sheet: &Sheet<'_>, gap: Option<u64>) -> Added
+fn place_bands(line: &mut Vec<u8>, canvas: &Canvas<'_>, gap: Option<u64>) -> Added
     ensures { OnOk result (line.new.items ≡ with_words line.old.items
-        (band_words sheet.now.columns (scene_on sheet.now.scene.now).bands gap)) }
+        (band_words canvas.now.columns (scene_on canvas.now.scene.now).bands gap)) }
 {
-    let bands = sheet.scene.bands.as_slice();
+    let bands = canvas.scene.bands.as_slice();
     for (i, band) in bands.iter().enumerate() {
-        place(line, sheet.columns.beside + 5 * i, form_at(*band, gap))?;
+        place(line, canvas.columns.beside + 5 * i, form_at(*band, gap))?;
     }
     Ok(())
 }
@@ -215,53 +215,53 @@ fn beside_words(alloc: Global, claimed: &Claimed, row: Row) -> Result<Vec<u8>, A
 }
 
 /// Returns the label of an operation, and whether its call is pending.
-fn operation_label(sheet: &Sheet<'_>, operation: Operation) -> Result<Vec<u8>, AllocError>
-    ensures { IfOk result (λ word. word.items ≡ operation_label (scene_on sheet.now.scene.now) operation) }
+fn operation_label(canvas: &Canvas<'_>, operation: Operation) -> Result<Vec<u8>, AllocError>
+    ensures { IfOk result (λ word. word.items ≡ operation_label (scene_on canvas.now.scene.now) operation) }
 {
-    let mut word = label_of(sheet.alloc, operation.kind)?;
-    if is_pending(sheet.scene.added_from, operation) {
+    let mut word = label_of(canvas.alloc, operation.kind)?;
+    if is_pending(canvas.scene.added_from, operation) {
         word.extend_from_slice(b" (pending)")?;
     }
     Ok(word)
 }
 
 /// Returns the label of the called operation, if there is one; after its number, if lanes have no room for that.
-fn call_label(sheet: &Sheet<'_>, called: Option<Operation>) -> Result<Vec<u8>, AllocError>
-    ensures { IfOk result (λ word. word.items ≡ call_label sheet.now.columns (scene_on sheet.now.scene.now) called) }
+fn call_label(canvas: &Canvas<'_>, called: Option<Operation>) -> Result<Vec<u8>, AllocError>
+    ensures { IfOk result (λ word. word.items ≡ call_label canvas.now.columns (scene_on canvas.now.scene.now) called) }
 {
     let Some(operation) = called else {
-        return Ok(Vec::new(sheet.alloc));
+        return Ok(Vec::new(canvas.alloc));
     };
-    let label = operation_label(sheet, operation)?;
-    if sheet.columns.lane == 1 {
-        let shown = shown_by(sheet.scene.claimed);
-        let number = number_at(sheet.alloc, place_in(shown, Row::Ticket(operation.call)))?;
+    let label = operation_label(canvas, operation)?;
+    if canvas.columns.lane == 1 {
+        let shown = shown_by(canvas.scene.claimed);
+        let number = number_at(canvas.alloc, place_in(shown, Row::Ticket(operation.call)))?;
         let wide = digits(shown.len() as u64);
-        numbered(sheet.alloc, wide, number.as_slice(), label.as_slice())
+        numbered(canvas.alloc, wide, number.as_slice(), label.as_slice())
     } else {
         Ok(label)
     }
 }
 
 /// Places the words to the right of the bands or the lanes.
-fn place_told(line: &mut Vec<u8>, sheet: &Sheet<'_>, row: Row) -> Added
+fn place_told(line: &mut Vec<u8>, canvas: &Canvas<'_>, row: Row) -> Added
     ensures { OnOk result
-        (line.new.items ≡ placed line.old.items (told_word sheet.now.columns (scene_on sheet.now.scene.now) row)) }
+        (line.new.items ≡ placed line.old.items (told_word canvas.now.columns (scene_on canvas.now.scene.now) row)) }
 {
-    let claimed = sheet.scene.claimed;
+    let claimed = canvas.scene.claimed;
     match row {
-        Row::Head => place(line, sheet.columns.lanes, b"in the queue first"),
+        Row::Head => place(line, canvas.columns.lanes, b"in the queue first"),
         Row::Initial(_, value) => {
-            let label = initial_label(sheet.alloc, value)?;
-            let number = number_at(sheet.alloc, place_in(shown_by(claimed), row))?;
+            let label = initial_label(canvas.alloc, value)?;
+            let number = number_at(canvas.alloc, place_in(shown_by(claimed), row))?;
             let wide = digits(count_of_lines(claimed) as u64);
-            let word = numbered(sheet.alloc, wide, number.as_slice(), label.as_slice())?;
-            place(line, sheet.columns.lanes, word.as_slice())
+            let word = numbered(canvas.alloc, wide, number.as_slice(), label.as_slice())?;
+            place(line, canvas.columns.lanes, word.as_slice())
         }
         Row::Ticket(ticket) => {
-            let called = called_at(sheet.scene.operations.as_slice(), ticket);
-            let word = call_label(sheet, called)?;
-            place(line, sheet.columns.label, word.as_slice())
+            let called = called_at(canvas.scene.operations.as_slice(), ticket);
+            let word = call_label(canvas, called)?;
+            place(line, canvas.columns.label, word.as_slice())
         }
         _ => Ok(()),
     }
@@ -269,12 +269,12 @@ fn place_told(line: &mut Vec<u8>, sheet: &Sheet<'_>, row: Row) -> Added
 
 /// Places a stroke under the head of each of this many bands.
 #[tactic(auto, using(crate::proofs::Loops::steps))]
-fn place_strokes(line: &mut Vec<u8>, sheet: &Sheet<'_>, bands: usize) -> Added
-    requires { bands ≤ length (scene_on sheet.now.scene.now).bands }
-    ensures { OnOk result (line.new.items ≡ with_words line.old.items (strokes sheet.now.columns bands)) }
+fn place_strokes(line: &mut Vec<u8>, canvas: &Canvas<'_>, bands: usize) -> Added
+    requires { bands ≤ length (scene_on canvas.now.scene.now).bands }
+    ensures { OnOk result (line.new.items ≡ with_words line.old.items (strokes canvas.now.columns bands)) }
 {
     for i in 0..bands {
-        place(line, sheet.columns.beside + 5 * i + 1, b"|")?;
+        place(line, canvas.columns.beside + 5 * i + 1, b"|")?;
     }
     Ok(())
 }
@@ -282,16 +282,16 @@ fn place_strokes(line: &mut Vec<u8>, sheet: &Sheet<'_>, bands: usize) -> Added
 /// Appends a line of these strokes, and of a word at a column.
 fn push_under(
     text: &mut Vec<u8>,
-    sheet: &Sheet<'_>,
+    canvas: &Canvas<'_>,
     bands: usize,
     column: usize,
     word: &[u8],
 ) -> Added
-    requires { bands ≤ length (scene_on sheet.now.scene.now).bands }
-    ensures { OnOk result (text.new.items ≡ text.old.items ++ under sheet.now.columns bands column word.now) }
+    requires { bands ≤ length (scene_on canvas.now.scene.now).bands }
+    ensures { OnOk result (text.new.items ≡ text.old.items ++ under canvas.now.columns bands column word.now) }
 {
-    let mut bytes = Vec::new(sheet.alloc);
-    place_strokes(&mut bytes, sheet, bands)?;
+    let mut bytes = Vec::new(canvas.alloc);
+    place_strokes(&mut bytes, canvas, bands)?;
     place(&mut bytes, column, word)?;
     push_line(text, bytes.as_slice())
 }
@@ -311,93 +311,93 @@ fn thread_digits(alloc: Global, narrow: bool, tens: bool, thread: u8) -> Result<
     Ok(word)
 }
 
-fn place_lane_names(line: &mut Vec<u8>, sheet: &Sheet<'_>, tens: bool) -> Added
+fn place_lane_names(line: &mut Vec<u8>, canvas: &Canvas<'_>, tens: bool) -> Added
     ensures { OnOk result (line.new.items ≡ with_words line.old.items
-        (lane_names sheet.now.columns (scene_on sheet.now.scene.now).threads tens
-        (scene_on sheet.now.scene.now).threads)) }
+        (lane_names canvas.now.columns (scene_on canvas.now.scene.now).threads tens
+        (scene_on canvas.now.scene.now).threads)) }
 {
-    let threads = sheet.scene.threads.as_slice();
-    let narrow = sheet.columns.lane == 1;
+    let threads = canvas.scene.threads.as_slice();
+    let narrow = canvas.columns.lane == 1;
     for thread in threads {
-        let word = thread_digits(sheet.alloc, narrow, tens, *thread)?;
-        place(line, lane_column(sheet, *thread), word.as_slice())?;
+        let word = thread_digits(canvas.alloc, narrow, tens, *thread)?;
+        place(line, lane_column(canvas, *thread), word.as_slice())?;
     }
     Ok(())
 }
 
 /// Appends the line of the words above the tickets and the order, and of the threads' numbers; or the line of the
 /// tens of these alone.
-fn push_names(text: &mut Vec<u8>, sheet: &Sheet<'_>, tens: bool) -> Added
+fn push_names(text: &mut Vec<u8>, canvas: &Canvas<'_>, tens: bool) -> Added
     ensures { OnOk result (text.new.items ≡ text.old.items
-        ++ line (line_of (name_words sheet.now.columns (scene_on sheet.now.scene.now) tens))) }
+        ++ line (line_of (name_words canvas.now.columns (scene_on canvas.now.scene.now) tens))) }
 {
-    let mut bytes = Vec::new(sheet.alloc);
+    let mut bytes = Vec::new(canvas.alloc);
     if !tens {
-        let column = sheet.columns.ticket.saturating_sub(6);
+        let column = canvas.columns.ticket.saturating_sub(6);
         place(&mut bytes, column, b"ticket")?;
-        if let Claimed::Yes(_) = sheet.scene.claimed {
-            place(&mut bytes, sheet.columns.beside, b"order")?;
+        if let Claimed::Yes(_) = canvas.scene.claimed {
+            place(&mut bytes, canvas.columns.beside, b"order")?;
         }
     }
-    place_strokes(&mut bytes, sheet, sheet.scene.bands.len())?;
-    place_lane_names(&mut bytes, sheet, tens)?;
+    place_strokes(&mut bytes, canvas, canvas.scene.bands.len())?;
+    place_lane_names(&mut bytes, canvas, tens)?;
     push_line(text, bytes.as_slice())
 }
 
 /// Appends the heads of the bands, and those of the tickets and lanes.
 #[tactic(auto, using(crate::proofs::Loops::steps), unfolding(crate::specs::Terminal::heads))]
-fn push_heads(text: &mut Vec<u8>, sheet: &Sheet<'_>) -> Added
-    ensures { OnOk result (text.new.items ≡ text.old.items ++ heads sheet.now.columns (scene_on sheet.now.scene.now)) }
+fn push_heads(text: &mut Vec<u8>, canvas: &Canvas<'_>) -> Added
+    ensures { OnOk result (text.new.items ≡ text.old.items ++ heads canvas.now.columns (scene_on canvas.now.scene.now)) }
 {
-    for (i, band) in sheet.scene.bands.as_slice().iter().enumerate() {
-        let word = head_words(sheet.alloc, band.head)?;
+    for (i, band) in canvas.scene.bands.as_slice().iter().enumerate() {
+        let word = head_words(canvas.alloc, band.head)?;
         push_under(
             text,
-            sheet,
+            canvas,
             i,
-            sheet.columns.beside + 5 * i,
+            canvas.columns.beside + 5 * i,
             word.as_slice(),
         )?;
     }
     push_under(
         text,
-        sheet,
-        sheet.scene.bands.len(),
-        sheet.columns.lanes,
+        canvas,
+        canvas.scene.bands.len(),
+        canvas.columns.lanes,
         b"thread",
     )?;
-    if sheet.columns.lane == 1 {
-        push_names(text, sheet, true)?;
+    if canvas.columns.lane == 1 {
+        push_names(text, canvas, true)?;
     }
-    push_names(text, sheet, false)
+    push_names(text, canvas, false)
 }
 
 /// Places the words of a row.
 #[tactic(auto, unfolding(crate::specs::Terminal::row_words))]
-fn place_row(line: &mut Vec<u8>, sheet: &Sheet<'_>, row: Row) -> Added
+fn place_row(line: &mut Vec<u8>, canvas: &Canvas<'_>, row: Row) -> Added
     ensures { OnOk result
-        (line.new.items ≡ with_words line.old.items (row_words sheet.now.columns (scene_on sheet.now.scene.now) row)) }
+        (line.new.items ≡ with_words line.old.items (row_words canvas.now.columns (scene_on canvas.now.scene.now) row)) }
 {
-    let tickets = ticket_words(sheet.alloc, sheet.scene.added_from, row)?;
-    let column = sheet.columns.ticket.saturating_sub(tickets.len());
+    let tickets = ticket_words(canvas.alloc, canvas.scene.added_from, row)?;
+    let column = canvas.columns.ticket.saturating_sub(tickets.len());
     place(line, column, tickets.as_slice())?;
-    let beside = beside_words(sheet.alloc, sheet.scene.claimed, row)?;
-    place(line, sheet.columns.beside, beside.as_slice())?;
-    place_bands(line, sheet, gap_of(row))?;
-    place_lanes(line, sheet, row)?;
-    place_told(line, sheet, row)
+    let beside = beside_words(canvas.alloc, canvas.scene.claimed, row)?;
+    place(line, canvas.columns.beside, beside.as_slice())?;
+    place_bands(line, canvas, gap_of(row))?;
+    place_lanes(line, canvas, row)?;
+    place_told(line, canvas, row)
 }
 
 /// Appends row i.
-fn push_numbered(text: &mut Vec<u8>, sheet: &Sheet<'_>, i: usize, row: Row) -> Added
+fn push_numbered(text: &mut Vec<u8>, canvas: &Canvas<'_>, i: usize, row: Row) -> Added
     ensures { OnOk result
-        (text.new.items ≡ text.old.items ++ numbered_row sheet.now.columns (scene_on sheet.now.scene.now) (i, row)) }
+        (text.new.items ≡ text.old.items ++ numbered_row canvas.now.columns (scene_on canvas.now.scene.now) (i, row)) }
 {
     if i > 0 && i % ROWS_UNDER_HEADS == 0 {
-        push_heads(text, sheet)?;
+        push_heads(text, canvas)?;
     }
-    let mut bytes = Vec::new(sheet.alloc);
-    place_row(&mut bytes, sheet, row)?;
+    let mut bytes = Vec::new(canvas.alloc);
+    place_row(&mut bytes, canvas, row)?;
     push_line(text, bytes.as_slice())
 }
 
@@ -426,11 +426,11 @@ fn effect_meaning(narrow: bool, claimed: &Claimed) -> &'static [u8]
 }
 
 /// Appends the signs of the picture with their meanings.
-fn push_signs(text: &mut Vec<u8>, sheet: &Sheet<'_>) -> Added
+fn push_signs(text: &mut Vec<u8>, canvas: &Canvas<'_>) -> Added
     ensures { OnOk result
-        (text.new.items ≡ text.old.items ++ flat_map sign_line (signs_of (scene_on sheet.now.scene.now))) }
+        (text.new.items ≡ text.old.items ++ flat_map sign_line (signs_of (scene_on canvas.now.scene.now))) }
 {
-    let signs = signs_of(sheet.alloc, sheet.scene)?;
+    let signs = signs_of(canvas.alloc, canvas.scene)?;
     for sign in signs.as_slice() {
         text.extend_from_slice(sign_text(*sign))?;
         push_line(text, meaning(*sign))?;
@@ -440,23 +440,23 @@ fn push_signs(text: &mut Vec<u8>, sheet: &Sheet<'_>) -> Added
 
 /// Appends the legend of the picture.
 #[tactic(auto, unfolding(crate::specs::Terminal::legend))]
-fn push_legend(text: &mut Vec<u8>, sheet: &Sheet<'_>) -> Added
-    ensures { OnOk result (text.new.items ≡ text.old.items ++ legend sheet.now.columns (scene_on sheet.now.scene.now)) }
+fn push_legend(text: &mut Vec<u8>, canvas: &Canvas<'_>) -> Added
+    ensures { OnOk result (text.new.items ≡ text.old.items ++ legend canvas.now.columns (scene_on canvas.now.scene.now)) }
 {
     text.extend_from_slice(LANE_MEANINGS)?;
-    text.extend_from_slice(effect_meaning(sheet.columns.lane == 1, sheet.scene.claimed))?;
-    push_signs(text, sheet)
+    text.extend_from_slice(effect_meaning(canvas.columns.lane == 1, canvas.scene.claimed))?;
+    push_signs(text, canvas)
 }
 
 /// Appends the text above the rows: headline, caption and legend.
 #[tactic(auto, unfolding(crate::specs::Terminal::words))]
-fn push_words(text: &mut Vec<u8>, sheet: &Sheet<'_>) -> Added
-    ensures { OnOk result (text.new.items ≡ text.old.items ++ words sheet.now.columns (scene_on sheet.now.scene.now)) }
+fn push_words(text: &mut Vec<u8>, canvas: &Canvas<'_>) -> Added
+    ensures { OnOk result (text.new.items ≡ text.old.items ++ words canvas.now.columns (scene_on canvas.now.scene.now)) }
 {
-    push_line(text, headline(sheet.scene.claimed))?;
-    push_caption(text, sheet.scene.added_from, sheet.scene.claimed)?;
+    push_line(text, headline(canvas.scene.claimed))?;
+    push_caption(text, canvas.scene.added_from, canvas.scene.claimed)?;
     push_line(text, b"")?;
-    push_legend(text, sheet)?;
+    push_legend(text, canvas)?;
     push_line(text, b"")
 }
 
@@ -485,12 +485,12 @@ pub fn terminal_picture(alloc: Global, scene: &Scene<'_>) -> Result<Vec<u8>, All
     requires { count_of_lines scene.now.claimed.now ≤ MOST_DRAWN }
     ensures { IfOk result (λ text. text.items ≡ terminal_picture (scene_on scene.now)) }
 {
-    let sheet = sheet_of(alloc, scene);
+    let canvas = canvas_of(alloc, scene);
     let mut text = Vec::new(alloc);
-    push_words(&mut text, &sheet)?;
-    push_heads(&mut text, &sheet)?;
+    push_words(&mut text, &canvas)?;
+    push_heads(&mut text, &canvas)?;
     for (i, row) in scene.rows.as_slice().iter().enumerate() {
-        push_numbered(&mut text, &sheet, i, *row)?;
+        push_numbered(&mut text, &canvas, i, *row)?;
     }
     Ok(text)
 }

@@ -2,7 +2,7 @@
 use Rattle.empty_witness.proofs.Common.{[], All, All-append, All-contains, All-get_or, All-nil, All-push, AllZip}
 use Rattle.empty_witness.proofs.Common.{AllZip-get_or, ap, AreGapsAt, AreLeastFreeGaps, arith, clear_on, Contains}
 use Rattle.empty_witness.proofs.Common.{Contains-append_right, Contains-get_or, Contents, Course, course_of, Did, drop}
-use Rattle.empty_witness.proofs.Common.{Empty, false, filter, get_or, get_or_default, HoldsPlaces}
+use Rattle.empty_witness.proofs.Common.{DequeueEmpty, false, filter, get_or, get_or_default, HoldsPlaces}
 use Rattle.empty_witness.proofs.Common.{initial_enqueues, inl, inr, is_empty_answer, is_empty_kind, is_none, IsAt}
 use Rattle.empty_witness.proofs.Common.{IsChosenCover, IsChosenWitness, IsClear, IsCovered, IsEmptyAnswerAt}
 use Rattle.empty_witness.proofs.Common.{IsFirstCovered, IsLeastFreeGap, IsSoonerOf, later_by, length, Life, List, map}
@@ -12,7 +12,7 @@ use Rattle.empty_witness.proofs.Common.{return_in_range, slice_get, slice_get-ma
 use Rattle.empty_witness.proofs.Common.{take-append-drop, time_of, timed, timeline, true, zero, ℕ, ◌++◌, ◌+◌, ◌<◌, ◌∙◌}
 use Rattle.empty_witness.proofs.Common.{◌∷◌, ◌≡◌, ◌≤◌}
 use Rattle.history_merge.proofs.Distinct.{call_by_return, contains_at}
-use Rattle.value_match.proofs.ToldPlaces.{filter_timed, places_timed}
+use Rattle.value_match.proofs.HistoryPlaces.{filter_timed, places_timed}
 use Rattle.std.proofs.lemmas.List.{append_assoc}
 use Rattle.history_merge.specs.declared.operation.OpKind.{OpKind}
 use Rattle.history_merge.specs.Legal.{ArePlacesOf}
@@ -23,7 +23,7 @@ use Rattle.empty_witness.specs.declared.search.EmptyAnswer.{EmptyAnswer}
 -- an empty dequeue of the history, at its times
 pub answer_timed : (history : Contents) (place : ℕ) (o : Operation) → IsClear (course_of history) → IsEmptyAnswerAt history.operations place
     → slice_get history.operations place ≡ Some o → IsAt (timed history.operations) place (later_by ORIGIN o)
-    × Did (timed history.operations) (later_by ORIGIN o) Empty × (o.call ≤ o.ret) × (o.ret + ORIGIN < NEVER)
+    × Did (timed history.operations) (later_by ORIGIN o) DequeueEmpty × (o.call ≤ o.ret) × (o.ret + ORIGIN < NEVER)
 answer_timed history place o clear (x, at_x, is) at =
     let all = timeline history.initial history.operations in
     let whole = (clear_on history.initial history.operations clear).complete in
@@ -56,16 +56,16 @@ listed_at operations (q ∷ places) (o ∷ listed) (suc i) p named within is =
     let more = listed_at operations places listed i p rest (omega arith) is in
     (more.0, more.1, omega (arith, more.2), more.3)
 
-kind_of_empty : (k : OpKind) → is_empty_kind k ≡ true → k ≡ Empty
-kind_of_empty Empty is = refl
+kind_of_empty : (k : OpKind) → is_empty_kind k ≡ true → k ≡ DequeueEmpty
+kind_of_empty DequeueEmpty is = refl
 kind_of_empty _ is = cc
 
 -- each listed empty dequeue is an operation of that kind
-pub is_empty_did : (operations : List Operation) (o : Operation) → Contains (filter is_empty_answer operations) o → Did operations o Empty
+pub is_empty_did : (operations : List Operation) (o : Operation) → Contains (filter is_empty_answer operations) o → Did operations o DequeueEmpty
 is_empty_did operations o among = let passed = passed_filter is_empty_answer operations o among in (passed.0, kind_of_empty o.kind passed.1)
 
 -- each operation of that kind is a listed empty dequeue
-pub empty_is_listed : (operations : List Operation) (o : Operation) → Did operations o Empty → Contains (filter is_empty_answer operations) o
+pub empty_is_listed : (operations : List Operation) (o : Operation) → Did operations o DequeueEmpty → Contains (filter is_empty_answer operations) o
 empty_is_listed operations o did = passes_filter is_empty_answer operations o (rw did.1 refl) did.0
 
 -- the operation at each of the places is an empty dequeue
@@ -158,7 +158,7 @@ module _ (h : Course) where
       first_of high (low ++ high) b is (All-append (ReturnsLater b) low high (gaps_come_later b low gaps zip) is.first)
 
   -- a single covered empty dequeue is the first
-  pub first_of_one : (place : ℕ) (x : EmptyAnswer) → x.place ≡ place → IsAt h.operations place x.operation → Did h.operations x.operation Empty
+  pub first_of_one : (place : ℕ) (x : EmptyAnswer) → x.place ≡ place → IsAt h.operations place x.operation → Did h.operations x.operation DequeueEmpty
       → IsCovered h x.operation → IsFirstCovered h (place ∷ []) x
   first_of_one place x same at is_empty covered = record {
     at = subst (λ p. IsAt h.operations p x.operation) (sym same) at;

@@ -9,7 +9,7 @@ pub use Rattle.event_records.specs.declared.limits.TheConstants.{ORIGIN}
 pub use Rattle.history_merge.specs.Initial.{Contents, initial_enqueues, later_by}
 pub use Rattle.history_merge.specs.Inner.Timeline.{timeline}
 pub use Rattle.history_merge.specs.Operations.{Did, IsAt, IsInWindow, NoneDid, Precedes}
-pub use Rattle.history_merge.specs.declared.operation.OpKind.TheVariants.{Deq, Empty, Enq, Not}
+pub use Rattle.history_merge.specs.declared.operation.OpKind.TheVariants.{Dequeue, DequeueEmpty, Enqueue, EnqueueFailed}
 pub use Rattle.history_merge.specs.declared.operation.Operation.{Operation}
 pub use Rattle.std.proofs.Common.{[], ap, ap₂, arith, drop, false, get_or, inl, inr, leb, length, length-append}
 pub use Rattle.std.proofs.Common.{length-take-le, List, ltb, map, max, None, Option, refl, rules, set, Some, subst}
@@ -41,6 +41,6 @@ pub use Rattle.value_match.specs.Times.{time_of}
 pub use Rattle.value_match.specs.Violations.{CoversFrom, IsClear, IsWitnessViolation}
 pub use Rattle.value_match.specs.declared.life.Life.{Life}
 pub use Rattle.value_match.specs.declared.life.MatchedValue.{MatchedValue}
-pub use Rattle.value_match.proofs.ToldPlaces.{clear_on, life_value, value_lives}
+pub use Rattle.value_match.proofs.HistoryPlaces.{clear_on, life_value, value_lives}
 pub use Rattle.value_match.specs.Outcome.{HoldsValues}
 pub use Rattle.value_match.specs.declared.life.TheConstants.{NEVER}

@@ -2,8 +2,8 @@
 use Rattle.empty_witness.proofs.Common.{[], All, All-append, All-contains, All-weaker, ap, arith, call_before_return}
 use Rattle.empty_witness.proofs.Common.{call_or_never, cases_lt, cases_order, clear_on, Contains}
 use Rattle.empty_witness.proofs.Common.{Contains-append_cases, Contains-append_right, contains_cons, Course, course}
-use Rattle.empty_witness.proofs.Common.{Covers, CoversFrom, Deq, dequeue_call, dequeue_of, dequeued_if_called, Did}
-use Rattle.empty_witness.proofs.Common.{drop, Empty, Enq, enqueue_of, enqueue_return, EntersBefore, FindsLongest}
+use Rattle.empty_witness.proofs.Common.{Covers, CoversFrom, Dequeue, dequeue_call, dequeue_of, dequeued_if_called, Did}
+use Rattle.empty_witness.proofs.Common.{drop, DequeueEmpty, Enqueue, enqueue_of, enqueue_return, EntersBefore, FindsLongest}
 use Rattle.empty_witness.proofs.Common.{HoldsValues, initial_enqueues, inl, inr, IsChosenCover, IsChosenCoverFrom}
 use Rattle.empty_witness.proofs.Common.{IsClear, IsCovered, IsLife, IsLongestOf, IsNextOfCover, IsSome}
 use Rattle.empty_witness.proofs.Common.{IsWitnessViolation, le-ltb, length, Life, life_is_contained, life_of_contained}
@@ -17,7 +17,7 @@ use Rattle.std.proofs.Common.{append_assoc}
 use Rattle.value_match.proofs.Fronts.{stays_as_itself, stays_through}
 use Rattle.history_merge.specs.Complete.{AreComplete}
 use Rattle.value_match.specs.declared.violation.CoverStep.{CoverStep}
-use Rattle.value_match.proofs.ToldPlaces.{clear_life}
+use Rattle.value_match.proofs.HistoryPlaces.{clear_life}
 use Rattle.value_match.specs.Outcome.{IsNamed, NamesCover}
 
 stays_at_least_one : (x y : Life) → StaysAtLeast x y ⊎ StaysAtLeast y x
@@ -109,15 +109,15 @@ chosen_covers h empty frontier (life ∷ rest) in_range chosen = elim (cases_lt 
 ]
 
 -- a chosen cover is a witness violation
-pub chosen_cover_violates : (operations : List Operation) (empty : Operation) (cover : List Life) → IsClear (on operations) → Did operations empty Empty
+pub chosen_cover_violates : (operations : List Operation) (empty : Operation) (cover : List Life) → IsClear (on operations) → Did operations empty DequeueEmpty
     → IsChosenCover (on operations) empty cover → IsWitnessViolation (on operations) empty cover
 chosen_cover_violates operations empty cover clear did chosen =
     let range = return_in_range operations empty clear.complete did.0 in
     record { answers_empty = did; covers = chosen_covers (on operations) empty empty.call cover (omega arith) chosen }
 
 -- the chosen cover from an operation on, at most `left` tickets before the empty dequeue returns
-cover_from : (left : ℕ) (operations : List Operation) (empty before : Operation) → IsClear (on operations) → Did operations empty Empty
-    → IsCovered (on operations) empty → Contains operations before → ((v : ℕ) → before.kind ≢ Enq v) → empty.call ≤ before.call → before.call < empty.ret
+cover_from : (left : ℕ) (operations : List Operation) (empty before : Operation) → IsClear (on operations) → Did operations empty DequeueEmpty
+    → IsCovered (on operations) empty → Contains operations before → ((v : ℕ) → before.kind ≢ Enqueue v) → empty.call ≤ before.call → before.call < empty.ret
     → empty.ret ≤ before.call + left → (cover : List Life) × IsChosenCoverFrom (on operations) empty before.call cover
 cover_from zero operations empty before clear did covered among other above below left = absurd (omega arith)
 cover_from (suc left) operations empty before clear did covered among other above below near =
@@ -131,19 +131,19 @@ cover_from (suc left) operations empty before clear did covered among other abov
       | inr leaves ↦
           let found = dequeued_if_called next.0 (omega (arith, return_in_range operations empty clear.complete did.0)) in
           let calls : dequeue_call next.0 ≡ found.0.call = ap call_or_never found.1 in
-          let did_d = MatchOption-at_some (NoneDid operations (Deq next.1.is_life.0)) (λ d. Did operations d (Deq next.1.is_life.0)) found.0 found.1
+          let did_d = MatchOption-at_some (NoneDid operations (Dequeue next.1.is_life.0)) (λ d. Did operations d (Dequeue next.1.is_life.0)) found.0 found.1
           next.1.is_life.2 in
-          let own = no_enqueue found.0 (Deq next.1.is_life.0) did_d.1 refl in
+          let own = no_enqueue found.0 (Dequeue next.1.is_life.0) did_d.1 refl in
           let apart = return_differs_from_call operations empty found.0 clear.complete did.0 did_d.0 own in
           let rest = cover_from left operations empty found.0 clear did covered did_d.0 own (omega arith) (omega arith) (omega arith) in
           (next.0 ∷ rest.0, (next.1, rw (le-ltb empty.ret (dequeue_call next.0) leaves) (subst (λ c. IsChosenCoverFrom (on operations) empty c rest.0) (sym calls) rest.1)))
     ]
 
 -- a covered empty dequeue has a chosen cover, which is a violation
-pub chosen_cover : (operations : List Operation) (empty : Operation) → IsClear (on operations) → Did operations empty Empty → IsCovered (on operations) empty
+pub chosen_cover : (operations : List Operation) (empty : Operation) → IsClear (on operations) → Did operations empty DequeueEmpty → IsCovered (on operations) empty
     → (cover : List Life) × IsChosenCover (on operations) empty cover × IsWitnessViolation (on operations) empty cover
 chosen_cover operations empty clear did covered =
-    let other = no_enqueue empty Empty did.1 refl in
+    let other = no_enqueue empty DequeueEmpty did.1 refl in
     let less = call_before_return operations empty clear.complete did.0 other in
     let cover = cover_from empty.ret operations empty empty clear did covered did.0 other (omega arith) less (omega arith) in
     (cover.0, cover.1, chosen_cover_violates operations empty cover.0 clear did cover.1)
@@ -208,13 +208,13 @@ pub record IsCoverSoFar (initial : List ℕ) (operations : List Operation) (o : 
 
 -- no operation returns when a value's dequeue is called, or at `NEVER`
 no_return_at : (operations : List Operation) (v : ℕ) (dequeue : Option Operation) → AreComplete operations
-    → MatchOption dequeue (NoneDid operations (Deq v)) (λ d. Did operations d (Deq v))
+    → MatchOption dequeue (NoneDid operations (Dequeue v)) (λ d. Did operations d (Dequeue v))
     → (x : Operation) → Contains operations x → x.ret ≢ call_or_never dequeue
 no_return_at operations v None complete none x among same = let range = return_in_range operations x complete among in omega arith
-no_return_at operations v (Some d) complete did x among same = return_differs_from_call operations x d complete among did.0 (no_enqueue d (Deq v) did.1 refl) same
+no_return_at operations v (Some d) complete did x among same = return_differs_from_call operations x d complete among did.0 (no_enqueue d (Dequeue v) did.1 refl) same
 
 module _ (initial : List ℕ) (operations : List Operation) (values : List MatchedValue) (o : Operation) (clear : IsClear (course initial operations))
-    (holds : HoldsValues (record { initial = initial; operations = operations }) values) (is_empty : Did (timed operations) o Empty)
+    (holds : HoldsValues (record { initial = initial; operations = operations }) values) (is_empty : Did (timed operations) o DequeueEmpty)
     (covered : IsCovered (course initial operations) o) where
   abbrev all : List Operation
   all = timeline initial operations
@@ -222,7 +222,7 @@ module _ (initial : List ℕ) (operations : List Operation) (values : List Match
   complete : AreComplete all
   complete = (clear_on initial operations clear).complete
 
-  empty_there : Did all o Empty
+  empty_there : Did all o DequeueEmpty
   empty_there = (Contains-append_right (initial_enqueues initial) (timed operations) o is_empty.0, is_empty.1)
 
   -- no step is taken yet
@@ -231,9 +231,9 @@ module _ (initial : List ℕ) (operations : List Operation) (values : List Match
     lives = [];
     named = search rules;
     past_call = omega arith;
-    no_return = λ x among. return_differs_from_call all x o complete among empty_there.0 (no_enqueue o Empty empty_there.1 refl);
+    no_return = λ x among. return_differs_from_call all x o complete among empty_there.0 (no_enqueue o DequeueEmpty empty_there.1 refl);
     goes_on = λ below rest chosen. chosen;
-    ends = λ past. let less = call_before_return all o complete empty_there.0 (no_enqueue o Empty empty_there.1 refl) in absurd (omega arith);
+    ends = λ past. let less = call_before_return all o complete empty_there.0 (no_enqueue o DequeueEmpty empty_there.1 refl) in absurd (omega arith);
   }
 
   -- a value that covers the gap at the frontier was enqueued before it

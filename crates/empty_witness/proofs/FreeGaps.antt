@@ -1,6 +1,6 @@
 -- The window of an operation has a least free gap, or is covered.
 use Rattle.empty_witness.proofs.Common.{[], ap, AreApart, AreSpansOf, arith, call_before_return, cases_lt, cases_order}
-use Rattle.empty_witness.proofs.Common.{Contains, Contains-get_or, contains_cons, Course, Covers, Enq, false, get_or}
+use Rattle.empty_witness.proofs.Common.{Contains, Contains-get_or, contains_cons, Course, Covers, Enqueue, false, get_or}
 use Rattle.empty_witness.proofs.Common.{get_or_default, Holds, inl, inr, IsClear, IsCovered, IsFirstOutside, IsFreeGap}
 use Rattle.empty_witness.proofs.Common.{IsLeastFreeGap, IsLife, le-ltb, leb, leb-false, leb-true, length, Life}
 use Rattle.empty_witness.proofs.Common.{life_is_contained, life_of_contained, List, lives_of, lt-ltb, ltb, MatchOption}
@@ -141,7 +141,7 @@ free_from (suc left) c operations o clear below above long =
     ]
 
 -- the window of an operation has a least free gap, or is covered
-pub free_gap_or_covered : (operations : List Operation) (o : Operation) → IsClear (on operations) → Contains operations o → ((v : ℕ) → o.kind ≢ Enq v)
+pub free_gap_or_covered : (operations : List Operation) (o : Operation) → IsClear (on operations) → Contains operations o → ((v : ℕ) → o.kind ≢ Enqueue v)
     → ((g : ℕ) × IsLeastFreeGap (on operations) o g) ⊎ IsCovered (on operations) o
 free_gap_or_covered operations o clear among other =
     let less = call_before_return operations o clear.complete among other in

@@ -1,5 +1,5 @@
 ghost use Rattle.std.specs.Prelude.{◌≤◌, All, IfOk, length, take};
-ghost use Rattle.history_merge.specs.declared.operation.OpKind.TheVariants.{Empty};
+ghost use Rattle.history_merge.specs.declared.operation.OpKind.TheVariants.{DequeueEmpty};
 ghost use Rattle.history_merge.specs.Operations.{Did};
 ghost use Rattle.value_match.specs.Lives.{course_of, IsCovered, dequeue_call, timed};
 ghost use Rattle.empty_witness.specs.Inner.Spans.{NamesChosenCover};
@@ -17,7 +17,7 @@ pub(crate) fn cover_of(
     matching: &Matching,
     answer: &Operation,
 ) -> Result<Cover, AllocError>
-    requires is_empty { Did (timed matching.now.operations) answer.now Empty }
+    requires is_empty { Did (timed matching.now.operations) answer.now DequeueEmpty }
     requires covered { IsCovered (course_of matching.now) answer.now }
     ensures { IfOk result (λ cover. NamesChosenCover matching.now.initial matching.now.operations answer.now cover) }
 {

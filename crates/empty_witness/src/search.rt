@@ -1,6 +1,6 @@
 ghost use Rattle.std.specs.Prelude.{◌≡◌, ◌≤◌, ◌++◌, ℕ, List, All, IfOk};
 ghost use Rattle.event_records.specs.declared.limits.TheConstants.{ORIGIN};
-ghost use Rattle.history_merge.specs.declared.operation.OpKind.TheVariants.{Empty};
+ghost use Rattle.history_merge.specs.declared.operation.OpKind.TheVariants.{DequeueEmpty};
 ghost use Rattle.history_merge.specs.Operations.{Did};
 ghost use Rattle.value_match.specs.Lives.{course_of, timed};
 ghost use Rattle.value_match.specs.Outcome.{IsOperation};
@@ -95,7 +95,7 @@ fn answer_at(matching: &Matching, empty: OpId) -> EmptyAnswer
     requires { IsEmptyAnswerAt matching.now.operations empty }
     ensures place { result.place ≡ empty }
     ensures at { IsOperation matching.now.operations empty result.operation }
-    ensures is_empty { Did (timed matching.now.operations) result.operation Empty }
+    ensures is_empty { Did (timed matching.now.operations) result.operation DequeueEmpty }
     ensures late { ORIGIN ≤ result.operation.call }
 {
     let operation = matching.operations().get(empty).unwrap();

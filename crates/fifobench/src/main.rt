@@ -2,7 +2,7 @@
 #![tactic(auto)]
 
 use commands::{
-    NamedQueue, StartFault, Terminals, built_ins, print_start_fault, run_over, words_of,
+    NamedQueue, StartFault, Terminals, args_of, built_ins, print_start_fault, run_over,
 };
 use history_text::{Buffered, Watched};
 use std::alloc::Global;
@@ -23,8 +23,8 @@ fn main(rt: HostRuntime) -> ExitCode {
         is_one_file: is_one_file(&rt),
     };
     let errors = rt.stderr();
-    let words = match words_of(&rt) {
-        Ok(words) => words,
+    let args = match args_of(&rt) {
+        Ok(args) => args,
         Err(fault) => return explain_start(&rt, fault, errors, terminals),
     };
     let Ok(queues) = built_ins(rt, rt.alloc()) else {
@@ -41,7 +41,7 @@ fn main(rt: HostRuntime) -> ExitCode {
         }
     }
     let output = std::io::writer(&rt);
-    let exit = run_over(&rt, &words, rt.reader(), output, errors, terminals, &shelf);
+    let exit = run_over(&rt, &args, rt.reader(), output, errors, terminals, &shelf);
     ExitCode::from(exit.status)
 }
 

@@ -82,5 +82,5 @@ pub use Rattle.history_merge.specs.declared.fault.HistoryFault.TheVariants.{Wron
 pub use Rattle.history_merge.specs.declared.forming.Forming.{Forming}
 pub use Rattle.history_merge.specs.declared.gathering.Gathering.{Gathering}
 pub use Rattle.history_merge.specs.declared.operation.OpKind.{OpKind}
-pub use Rattle.history_merge.specs.declared.operation.OpKind.TheVariants.{Deq, Empty, Enq, Not}
+pub use Rattle.history_merge.specs.declared.operation.OpKind.TheVariants.{Dequeue, DequeueEmpty, Enqueue, EnqueueFailed}
 pub use Rattle.history_merge.specs.declared.operation.Operation.{Operation}

@@ -3,15 +3,15 @@ use Rattle.history_merge.proofs.Common.{accept, accept_all, All, All-cons, All-c
 use Rattle.history_merge.proofs.Common.{[], All-tail, all_pairs_push, AllPairs, AllPairs-cons}
 use Rattle.history_merge.proofs.Common.{Any-from_list_any, ap, append-nil, AreApart, AreComplete, AreDistinct, arith}
 use Rattle.history_merge.proofs.Common.{Bool, called_value, called_values, calls_initial, cases_lt, cases_order}
-use Rattle.history_merge.proofs.Common.{common_steps, cond, cons_option, Contains, Contains-get_or, Deq, Did, drop}
-use Rattle.history_merge.proofs.Common.{Empty, Enq, enqueued_value, eq-eqb, eqb-true, eqb_tells, Event}
+use Rattle.history_merge.proofs.Common.{common_steps, cond, cons_option, Contains, Contains-get_or, Dequeue, Did, drop}
+use Rattle.history_merge.proofs.Common.{DequeueEmpty, Enqueue, enqueued_value, eq-eqb, eqb-true, eqb_tells, Event}
 use Rattle.history_merge.proofs.Common.{false_from_ne_true, false≢true, filter_map, filter_map-append, find}
 use Rattle.history_merge.proofs.Common.{find_at, get_or-append_seam, get_or-take, get_or_append_left, get_or_default}
 use Rattle.history_merge.proofs.Common.{get_or_from_slice_get, gets, HasRefusedInitial, InitialTwice, inl, inr}
 use Rattle.history_merge.proofs.Common.{is_call, is_initial, is_sum_by, IsCompleteFrom, IsCompleteHistory}
 use Rattle.history_merge.proofs.Common.{IsFirstTwice, IsPermutation, IsPermutation-map, IsTimed, kind_of, length}
 use Rattle.history_merge.proofs.Common.{length-take, list_any, list_any-append, list_any_at, lt-ltb, map, MAX_TICKET}
-use Rattle.history_merge.proofs.Common.{MAX_TIME, nat_eq, nat_tests, None, Not, Operation, operation_of, operations_of}
+use Rattle.history_merge.proofs.Common.{MAX_TIME, nat_eq, nat_tests, None, EnqueueFailed, Operation, operation_of, operations_of}
 use Rattle.history_merge.proofs.Common.{OpKind, Option, option_and_then_some, option_map, option_map_or, or_comm}
 use Rattle.history_merge.proofs.Common.{position-Some, position_or_len, refl, repeats_value, same_Some}
 use Rattle.history_merge.proofs.Common.{slice_get, slice_get-get_or, slice_get-map, slice_get_read, slice_get_within}
@@ -24,12 +24,12 @@ use Rattle.std.proofs.Common.{append_assoc, false, get_or, length-append, List, 
 
 -- the value that an operation of this kind puts in
 abbrev pub put_in : OpKind → Option ℕ
-put_in (Enq v) = Some v
+put_in (Enqueue v) = Some v
 put_in _ = None
 
 -- the value that an operation of this kind takes out
 abbrev pub taken_out : OpKind → Option ℕ
-taken_out (Deq v) = Some v
+taken_out (Dequeue v) = Some v
 taken_out _ = None
 
 -- the values of successful enqueues, in their order
@@ -43,10 +43,10 @@ dequeued kinds = filter_map taken_out kinds
 -- the values held and enqueued are those dequeued and left, in the same order
 pub enqueued_is_dequeued : (kinds : List OpKind) (queue left : List ℕ) → accept_all queue kinds ≡ Some left → queue ++ enqueued kinds ≡ dequeued kinds ++ left
 enqueued_is_dequeued [] queue left run = let same : queue ≡ left = cc in rw same (append-nil left)
-enqueued_is_dequeued (Enq v ∷ kinds) queue left run = sym (append_assoc queue (v ∷ []) (enqueued kinds)) ∙ enqueued_is_dequeued kinds (queue ++ v ∷ []) left run
-enqueued_is_dequeued (Not v ∷ kinds) queue left run = enqueued_is_dequeued kinds queue left run
-enqueued_is_dequeued (Deq v ∷ kinds) (front ∷ rest) left run = grind (arith, nat_tests, enqueued_is_dequeued kinds rest left)
-enqueued_is_dequeued (Empty ∷ kinds) [] left run = enqueued_is_dequeued kinds [] left run
+enqueued_is_dequeued (Enqueue v ∷ kinds) queue left run = sym (append_assoc queue (v ∷ []) (enqueued kinds)) ∙ enqueued_is_dequeued kinds (queue ++ v ∷ []) left run
+enqueued_is_dequeued (EnqueueFailed v ∷ kinds) queue left run = enqueued_is_dequeued kinds queue left run
+enqueued_is_dequeued (Dequeue v ∷ kinds) (front ∷ rest) left run = grind (arith, nat_tests, enqueued_is_dequeued kinds rest left)
+enqueued_is_dequeued (DequeueEmpty ∷ kinds) [] left run = enqueued_is_dequeued kinds [] left run
 enqueued_is_dequeued _ _ left run = cc
 
 -- before each operation of an accepted run there is a queue that accepts it
@@ -121,30 +121,30 @@ module _ (gives : OpKind → Option ℕ) where
       further (gives x) v _ _ (split_at_giver kinds i j v k gave (omega arith) at)
 
 -- only an enqueue puts a value in
-pub put_in_by : (k : OpKind) (v : ℕ) → put_in k ≡ Some v → k ≡ Enq v
+pub put_in_by : (k : OpKind) (v : ℕ) → put_in k ≡ Some v → k ≡ Enqueue v
 put_in_by k v e = grind arith
 
 -- only a dequeue takes a value out
-taken_out_by : (k : OpKind) (v : ℕ) → taken_out k ≡ Some v → k ≡ Deq v
+taken_out_by : (k : OpKind) (v : ℕ) → taken_out k ≡ Some v → k ≡ Dequeue v
 taken_out_by k v e = grind arith
 
 -- a value that was enqueued before place j has an enqueue there
-pub enqueue_of_member : (kinds : List OpKind) (j v : ℕ) → Member v (enqueued (take j kinds)) → StandsBefore kinds j (Enq v)
+pub enqueue_of_member : (kinds : List OpKind) (j v : ℕ) → Member v (enqueued (take j kinds)) → StandsBefore kinds j (Enqueue v)
 enqueue_of_member kinds j v m = grind (arith, giver_of_member, put_in_by)
 
 -- a value that was dequeued before place j has a dequeue there
-pub dequeue_of_member : (kinds : List OpKind) (j v : ℕ) → Member v (dequeued (take j kinds)) → StandsBefore kinds j (Deq v)
+pub dequeue_of_member : (kinds : List OpKind) (j v : ℕ) → Member v (dequeued (take j kinds)) → StandsBefore kinds j (Dequeue v)
 dequeue_of_member kinds j v m = grind (arith, giver_of_member, taken_out_by)
 
 -- the values enqueued before place j, split at an enqueue before it
-pub split_at_enqueue : (kinds : List OpKind) (i j v : ℕ) → i < j → slice_get kinds i ≡ Some (Enq v)
+pub split_at_enqueue : (kinds : List OpKind) (i j v : ℕ) → i < j → slice_get kinds i ≡ Some (Enqueue v)
     → (rest : List ℕ) × (enqueued (take j kinds) ≡ enqueued (take i kinds) ++ v ∷ rest)
-split_at_enqueue kinds i j v below at = split_at_giver put_in kinds i j v (Enq v) refl below at
+split_at_enqueue kinds i j v below at = split_at_giver put_in kinds i j v (Enqueue v) refl below at
 
 -- the values dequeued before place j, split at a dequeue before it
-pub split_at_dequeue : (kinds : List OpKind) (i j v : ℕ) → i < j → slice_get kinds i ≡ Some (Deq v)
+pub split_at_dequeue : (kinds : List OpKind) (i j v : ℕ) → i < j → slice_get kinds i ≡ Some (Dequeue v)
     → (rest : List ℕ) × (dequeued (take j kinds) ≡ dequeued (take i kinds) ++ v ∷ rest)
-split_at_dequeue kinds i j v below at = split_at_giver taken_out kinds i j v (Deq v) refl below at
+split_at_dequeue kinds i j v below at = split_at_giver taken_out kinds i j v (Dequeue v) refl below at
 
 -- the number of times that a value is in a list
 abbrev pub count : ℕ → List ℕ → ℕ
@@ -162,10 +162,10 @@ count_here v xs = rw (eq-eqb v v refl)
 
 -- the number of calls to enqueue the value, successful or failed, of an operation of this kind
 abbrev pub calls_of_kind : ℕ → OpKind → ℕ
-calls_of_kind v (Enq w) = cond (nat_eq w v) 1 0
-calls_of_kind v (Not w) = cond (nat_eq w v) 1 0
-calls_of_kind v (Deq w) = 0
-calls_of_kind v Empty = 0
+calls_of_kind v (Enqueue w) = cond (nat_eq w v) 1 0
+calls_of_kind v (EnqueueFailed w) = cond (nat_eq w v) 1 0
+calls_of_kind v (Dequeue w) = 0
+calls_of_kind v DequeueEmpty = 0
 
 -- the number of calls to enqueue a value
 abbrev pub calls : ℕ → List OpKind → ℕ
@@ -265,10 +265,10 @@ called_once events v complete = grind (arith, count_of_distinct, calls-operation
 
 -- a call for a value is that of an enqueue, successful or failed
 calls_or_not : (v : ℕ) (k : OpKind) → ((calls_of_kind v k ≡ 1) × (enqueued_value k ≡ Some v)) ⊎ (calls_of_kind v k ≡ 0)
-calls_or_not v (Enq w) = elim (eqb_tells w v) [ inl h ↦ inl (rw h.0 refl, ap (λ x. Some x) h.1) | inr h ↦ inr (rw h.0 refl) ]
-calls_or_not v (Not w) = elim (eqb_tells w v) [ inl h ↦ inl (rw h.0 refl, ap (λ x. Some x) h.1) | inr h ↦ inr (rw h.0 refl) ]
-calls_or_not v (Deq w) = inr refl
-calls_or_not v Empty = inr refl
+calls_or_not v (Enqueue w) = elim (eqb_tells w v) [ inl h ↦ inl (rw h.0 refl, ap (λ x. Some x) h.1) | inr h ↦ inr (rw h.0 refl) ]
+calls_or_not v (EnqueueFailed w) = elim (eqb_tells w v) [ inl h ↦ inl (rw h.0 refl, ap (λ x. Some x) h.1) | inr h ↦ inr (rw h.0 refl) ]
+calls_or_not v (Dequeue w) = inr refl
+calls_or_not v DequeueEmpty = inr refl
 
 none_called : (v : ℕ) (xs : List Operation) → All (λ o. ¬ (enqueued_value o.kind ≡ Some v)) xs → calls v (map (λ o. o.kind) xs) ≡ 0
 none_called v [] none = refl
@@ -540,16 +540,16 @@ call_by_return operations o complete among = (All-contains IsTimed operations o 
 
 -- an operation that is no successful enqueue is called before it returns
 pub call_before_return : (operations : List Operation) (o : Operation) → AreComplete operations → Contains operations o
-    → ((v : ℕ) → o.kind ≢ Enq v) → o.call < o.ret
+    → ((v : ℕ) → o.kind ≢ Enqueue v) → o.call < o.ret
 call_before_return operations o complete among = (All-contains IsTimed operations o complete.timed among).takes_time
 
 -- an operation of another kind is no successful enqueue
-pub no_enqueue : (o : Operation) (k : OpKind) → o.kind ≡ k → put_in k ≡ None → (v : ℕ) → o.kind ≢ Enq v
+pub no_enqueue : (o : Operation) (k : OpKind) → o.kind ≡ k → put_in k ≡ None → (v : ℕ) → o.kind ≢ Enqueue v
 no_enqueue o k is none v same = let clash : None ≡ Some v = sym none ∙ ap put_in (sym is ∙ same) in cc
 
 -- no operation returns at the call of one that is no successful enqueue
 pub return_differs_from_call : (operations : List Operation) (x y : Operation) → AreComplete operations → Contains operations x
-    → Contains operations y → ((v : ℕ) → y.kind ≢ Enq v) → x.ret ≢ y.call
+    → Contains operations y → ((v : ℕ) → y.kind ≢ Enqueue v) → x.ret ≢ y.call
 return_differs_from_call operations x y complete in_x in_y other same =
     let one = returns_at_call operations x y complete in_x in_y same in
     grind (arith, call_before_return)
@@ -560,7 +560,7 @@ return_in_range operations o complete among = (All-contains IsTimed operations o
 
 -- the operation calls to enqueue this value, successfully or not
 abbrev pub CallsFor : Operation → ℕ → Type 0
-CallsFor o v = (o.kind ≡ Enq v) ⊎ (o.kind ≡ Not v)
+CallsFor o v = (o.kind ≡ Enqueue v) ⊎ (o.kind ≡ EnqueueFailed v)
 
 called_value_of : (o : Operation) (v : ℕ) → CallsFor o v → enqueued_value o.kind ≡ Some v
 called_value_of o v (inl e) = ap enqueued_value e
@@ -576,8 +576,8 @@ same_value_call operations x y v complete in_x in_y for_x for_y = elim (one_or_a
 ]
 
 -- enqueues of the same value are equal
-pub same_enqueue : (operations : List Operation) (x y : Operation) (v : ℕ) → AreComplete operations → Did operations x (Enq v)
-    → Did operations y (Enq v) → x ≡ y
+pub same_enqueue : (operations : List Operation) (x y : Operation) (v : ℕ) → AreComplete operations → Did operations x (Enqueue v)
+    → Did operations y (Enqueue v) → x ≡ y
 same_enqueue operations x y v complete did_x did_y = same_value_call operations x y v complete did_x.0 did_y.0 (inl did_x.1) (inl did_y.1)
 
 -- ---- values that no two calls share, and initial values

@@ -4,7 +4,7 @@ use Rattle.std.specs.Prelude.{slice_get}
 use Rattle.std.proofs.lemmas.List.{length-map, take_more}
 use Rattle.std.proofs.lemmas.Option.{get_or_from_slice_get, slice_get-get_or}
 use Rattle.history_merge.specs.declared.operation.Operation.{Operation}
-use Rattle.history_merge.specs.declared.operation.OpKind.TheVariants.{Empty}
+use Rattle.history_merge.specs.declared.operation.OpKind.TheVariants.{DequeueEmpty}
 use Rattle.history_merge.specs.Legal.{ArePlacesOf}
 
 -- the entry at an index of the places is the place of the operation at this index
@@ -27,7 +27,7 @@ as_many_placed operations places listed at =
 module _ (operations : List Operation) (places : List ℕ) (listed : List Operation) (at : ArePlacesOf operations places listed) (i d : ℕ)
     (below : i < length places) where
   abbrev past : Operation
-  past = record { call = 0; ret = 0; thread = 0; kind = Empty }
+  past = record { call = 0; ret = 0; thread = 0; kind = DequeueEmpty }
 
   within : i < length listed
   within = let many = as_many_placed operations places listed at in omega (arith, below, many)

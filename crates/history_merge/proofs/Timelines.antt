@@ -2,14 +2,14 @@
 use Rattle.history_merge.proofs.Common.{[], All, All-append, All-cons, All-contains, All-map, All-nil, All-permutation}
 use Rattle.history_merge.proofs.Common.{AllPairs, AllPairs-cons, ap, append-nil, AreApart}
 use Rattle.history_merge.proofs.Common.{AreComplete, AreDistinct, arith, called_value, called_values, cases_eq}
-use Rattle.history_merge.proofs.Common.{common_steps, Contains, Contains-get_or, Contains-permutation, Deq, drop}
-use Rattle.history_merge.proofs.Common.{drop-append_seam, earlier_by, Empty, Enq, enqueue_at, enqueued_value}
+use Rattle.history_merge.proofs.Common.{common_steps, Contains, Contains-get_or, Contains-permutation, Dequeue, drop}
+use Rattle.history_merge.proofs.Common.{drop-append_seam, earlier_by, DequeueEmpty, Enqueue, enqueue_at, enqueued_value}
 use Rattle.history_merge.proofs.Common.{enqueues_from, Event, get_or, get_or-drop, get_or-map, initial_enqueues, inl}
 use Rattle.history_merge.proofs.Common.{inr, IsAccepted, IsCompleteFrom, IsLegalOrder, IsLinearizable, IsPermutation}
 use Rattle.history_merge.proofs.Common.{IsPermutation-cons, IsPermutation-map, IsPermutation-refl}
 use Rattle.history_merge.proofs.Common.{IsPermutation-remove, IsPermutation-sym, IsPermutation-trans, IsTimed}
 use Rattle.history_merge.proofs.Common.{IsTimeline, kind_of, later_by, length, length-map, map, map-append, map-set}
-use Rattle.history_merge.proofs.Common.{map_fixed, MAX_INITIAL, nat_tests, Not, OnErr, OnOk, Operation, operations_of}
+use Rattle.history_merge.proofs.Common.{map_fixed, MAX_INITIAL, nat_tests, EnqueueFailed, OnErr, OnOk, Operation, operations_of}
 use Rattle.history_merge.proofs.Common.{operations_on, OpKind, ORIGIN, Precedes, refl, remove, same_Some, set}
 use Rattle.history_merge.proofs.Common.{set-append_right, slice_get, slice_get-map, Some, subst, suc, sum_by}
 use Rattle.history_merge.proofs.Common.{sum_by-cons, sum_by-IsPermutation, sym, take, take_more, timeline, What, zero}
@@ -214,10 +214,10 @@ module _ {X : Type 0} (which : (x y : X) → EqualOrNot x y) where
       let right = sum_by-cons (one z) x ys in omega (arith, whole, left, right))
 
 kind_or_not : (j k : OpKind) → EqualOrNot j k
-kind_or_not (Enq v) (Enq w) = grind (arith, cases_eq v w)
-kind_or_not (Not v) (Not w) = grind (arith, cases_eq v w)
-kind_or_not (Deq v) (Deq w) = grind (arith, cases_eq v w)
-kind_or_not Empty Empty = inl refl
+kind_or_not (Enqueue v) (Enqueue w) = grind (arith, cases_eq v w)
+kind_or_not (EnqueueFailed v) (EnqueueFailed w) = grind (arith, cases_eq v w)
+kind_or_not (Dequeue v) (Dequeue w) = grind (arith, cases_eq v w)
+kind_or_not DequeueEmpty DequeueEmpty = inl refl
 kind_or_not _ _ = inr (λ same. cc)
 
 operation_or_not : (x y : Operation) → EqualOrNot x y
@@ -231,7 +231,7 @@ rest_permutes = cancelled operation_or_not
 
 -- each linearization begins with an enqueue that precedes all other operations, and continues from the queue with its
 -- value
-pub first_begins : (queue : List ℕ) (v : ℕ) (x : Operation) (others order : List Operation) → x.kind ≡ Enq v → All (Precedes x) others
+pub first_begins : (queue : List ℕ) (v : ℕ) (x : Operation) (others order : List Operation) → x.kind ≡ Enqueue v → All (Precedes x) others
     → IsLegalOrder queue (x ∷ others) order
     → (rest : List Operation) × (order ≡ x ∷ rest) × IsLegalOrder (queue ++ v ∷ []) others rest
 first_begins queue v x others [] kind first legal =
@@ -263,7 +263,7 @@ first_begins queue v x others (h ∷ rest) kind first legal = (
     )
 
 -- an enqueue that no other operation precedes may come first
-pub first_put : (queue : List ℕ) (v : ℕ) (x : Operation) (others rest : List Operation) → x.kind ≡ Enq v → All (λ o. ¬ (Precedes o x)) others
+pub first_put : (queue : List ℕ) (v : ℕ) (x : Operation) (others rest : List Operation) → x.kind ≡ Enqueue v → All (λ o. ¬ (Precedes o x)) others
     → IsLegalOrder (queue ++ v ∷ []) others rest → IsLegalOrder queue (x ∷ others) (x ∷ rest)
 first_put queue v x others rest kind none legal = record {
   holds_each_once = IsPermutation-cons x others rest legal.holds_each_once;
@@ -282,7 +282,7 @@ abbrev pub Enqueue : List ℕ → List Operation → Type 0
 Enqueue [] [] = ⊤
 Enqueue [] (x ∷ leading) = ⊥
 Enqueue (v ∷ values) [] = ⊥
-Enqueue (v ∷ values) (x ∷ leading) = (x.kind ≡ Enq v) × Enqueue values leading
+Enqueue (v ∷ values) (x ∷ leading) = (x.kind ≡ Enqueue v) × Enqueue values leading
 
 -- each linearization begins with enqueues that precede all other operations in turn, and continues from the queue
 -- with their values

@@ -7,7 +7,7 @@ use Rattle.event_records.specs.Turns.{TakesTurns, TicketsRise}
 use Rattle.event_records.specs.Projection.{projection}
 use Rattle.history_merge.specs.Operations.{enqueued_value}
 use Rattle.history_merge.specs.declared.operation.Operation.{Operation}
-use Rattle.history_merge.specs.declared.operation.OpKind.TheVariants.{Enq}
+use Rattle.history_merge.specs.declared.operation.OpKind.TheVariants.{Enqueue}
 use Rattle.event_records.specs.declared.limits.TheConstants.{MAX_TICKET, MAX_THREAD, MAX_TIME}
 
 -- the value that a call enqueues
@@ -37,7 +37,7 @@ pub record IsCompleteHistory (events : List Event) : Type 0 where
 -- scale
 pub record IsTimed (o : Operation) : Type 0 where
   pub returns_late : o.call ≤ o.ret
-  pub takes_time : ((v : ℕ) → o.kind ≢ Enq v) → o.call < o.ret
+  pub takes_time : ((v : ℕ) → o.kind ≢ Enqueue v) → o.call < o.ret
   pub above_zero : 0 < o.ret
   pub in_range : o.ret ≤ MAX_TIME
 

@@ -5,21 +5,21 @@ use Rattle.event_records.specs.declared.event.What.{What}
 use Rattle.event_records.specs.declared.event.What.TheVariants.{CallEnq, RetEnq, RetNot, CallDeq, RetDeq, RetEmpty}
 use Rattle.history_merge.specs.declared.operation.Operation.{Operation}
 use Rattle.history_merge.specs.declared.operation.OpKind.{OpKind}
-use Rattle.history_merge.specs.declared.operation.OpKind.TheVariants.{Enq, Deq, Empty, Not}
+use Rattle.history_merge.specs.declared.operation.OpKind.TheVariants.{Enqueue, Dequeue, DequeueEmpty, EnqueueFailed}
 
 -- the call of an operation of this kind
 abbrev pub called_by : OpKind → What
-called_by (Enq v) = CallEnq v
-called_by (Not v) = CallEnq v
-called_by (Deq v) = CallDeq
-called_by Empty = CallDeq
+called_by (Enqueue v) = CallEnq v
+called_by (EnqueueFailed v) = CallEnq v
+called_by (Dequeue v) = CallDeq
+called_by DequeueEmpty = CallDeq
 
 -- the return of an operation of this kind
 abbrev pub answered_by : OpKind → What
-answered_by (Enq v) = RetEnq
-answered_by (Not v) = RetNot
-answered_by (Deq v) = RetDeq v
-answered_by Empty = RetEmpty
+answered_by (Enqueue v) = RetEnq
+answered_by (EnqueueFailed v) = RetNot
+answered_by (Dequeue v) = RetDeq v
+answered_by DequeueEmpty = RetEmpty
 
 -- the event of an operation's call
 abbrev pub call_event : Operation → Event

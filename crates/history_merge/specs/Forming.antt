@@ -6,17 +6,17 @@ use Rattle.event_records.specs.declared.event.What.TheVariants.{CallEnq, RetNot,
 use Rattle.event_records.specs.Turns.{is_call}
 use Rattle.history_merge.specs.declared.operation.Operation.{Operation}
 use Rattle.history_merge.specs.declared.operation.OpKind.{OpKind}
-use Rattle.history_merge.specs.declared.operation.OpKind.TheVariants.{Enq, Deq, Empty, Not}
+use Rattle.history_merge.specs.declared.operation.OpKind.TheVariants.{Enqueue, Dequeue, DequeueEmpty, EnqueueFailed}
 
 -- the kind that an operation counts as while it is pending: a successful enqueue, or an empty dequeue
 abbrev pub begun : What → OpKind
-begun (CallEnq v) = Enq v
-begun _ = Empty
+begun (CallEnq v) = Enqueue v
+begun _ = DequeueEmpty
 
 -- the kind of the operation after its return
 abbrev pub answered : OpKind → What → OpKind
-answered (Enq v) RetNot = Not v
-answered Empty (RetDeq v) = Deq v
+answered (Enqueue v) RetNot = EnqueueFailed v
+answered DequeueEmpty (RetDeq v) = Dequeue v
 answered kind _ = kind
 
 -- the operation of a call and of the next event of its thread, if there is one; otherwise its return is 0

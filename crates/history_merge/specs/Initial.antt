@@ -3,7 +3,7 @@ use Rattle.std.specs.Prelude.{ℕ, ◌+◌, ◌-◌, List, [], ◌∷◌, ◌++�
 use Rattle.event_records.specs.declared.event.Event.{Event}
 use Rattle.event_records.specs.declared.limits.TheConstants.{ORIGIN}
 use Rattle.history_merge.specs.declared.operation.Operation.{Operation}
-use Rattle.history_merge.specs.declared.operation.OpKind.TheVariants.{Enq}
+use Rattle.history_merge.specs.declared.operation.OpKind.TheVariants.{Enqueue}
 use Rattle.history_merge.specs.Complete.{AreDistinct, IsCompleteHistory, called_values}
 
 -- a complete history, and initial values that are distinct and that no call enqueues
@@ -25,7 +25,7 @@ pub record Contents : Type 0 where
 
 -- an enqueue of the value that is called and returns at this time
 abbrev pub enqueue_at : ℕ → ℕ → Operation
-enqueue_at time v = record { call = time; ret = time; thread = 0; kind = Enq v }
+enqueue_at time v = record { call = time; ret = time; thread = 0; kind = Enqueue v }
 
 -- the operation, moved later by this much
 abbrev pub later_by : ℕ → Operation → Operation

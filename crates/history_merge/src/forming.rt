@@ -204,8 +204,8 @@ fn begun(call: Event) -> Operation
         ret: 0,
         thread: call.thread,
         kind: match call.what {
-            What::CallEnq(value) => OpKind::Enq(value),
-            _ => OpKind::Empty,
+            What::CallEnq(value) => OpKind::Enqueue(value),
+            _ => OpKind::DequeueEmpty,
         },
     }
 }

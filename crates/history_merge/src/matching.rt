@@ -26,10 +26,10 @@ pub(crate) fn kind_of(call: What, answer: What) -> Option<OpKind>
     ensures { result ≡ kind_of call answer }
 {
     match (call, answer) {
-        (What::CallEnq(value), What::RetEnq) => Some(OpKind::Enq(value)),
-        (What::CallEnq(value), What::RetNot) => Some(OpKind::Not(value)),
-        (What::CallDeq, What::RetDeq(value)) => Some(OpKind::Deq(value)),
-        (What::CallDeq, What::RetEmpty) => Some(OpKind::Empty),
+        (What::CallEnq(value), What::RetEnq) => Some(OpKind::Enqueue(value)),
+        (What::CallEnq(value), What::RetNot) => Some(OpKind::EnqueueFailed(value)),
+        (What::CallDeq, What::RetDeq(value)) => Some(OpKind::Dequeue(value)),
+        (What::CallDeq, What::RetEmpty) => Some(OpKind::DequeueEmpty),
         _ => None,
     }
 }

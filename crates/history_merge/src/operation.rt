@@ -8,13 +8,13 @@ use std::marker::Model;
 #[derive(Clone, Copy, Debug, PartialEq, Eq)]
 pub enum OpKind {
     /// A successful enqueue of this value.
-    Enq(u64),
+    Enqueue(u64),
     /// A dequeue of this value.
-    Deq(u64),
+    Dequeue(u64),
     /// A dequeue that found the queue empty.
-    Empty,
+    DequeueEmpty,
     /// A failed enqueue of this value: the queue was full or out of memory.
-    Not(u64),
+    EnqueueFailed(u64),
 }
 
 impl OpKind {
@@ -27,8 +27,8 @@ impl OpKind {
         ensures { result ≡ enqueued_value self }
     {
         match self {
-            OpKind::Enq(value) | OpKind::Not(value) => Some(value),
-            OpKind::Deq(_) | OpKind::Empty => None,
+            OpKind::Enqueue(value) | OpKind::EnqueueFailed(value) => Some(value),
+            OpKind::Dequeue(_) | OpKind::DequeueEmpty => None,
         }
     }
 
@@ -38,8 +38,8 @@ impl OpKind {
         ensures { result ≡ called_by self }
     {
         match self {
-            OpKind::Enq(value) | OpKind::Not(value) => What::CallEnq(value),
-            OpKind::Deq(_) | OpKind::Empty => What::CallDeq,
+            OpKind::Enqueue(value) | OpKind::EnqueueFailed(value) => What::CallEnq(value),
+            OpKind::Dequeue(_) | OpKind::DequeueEmpty => What::CallDeq,
         }
     }
 
@@ -49,10 +49,10 @@ impl OpKind {
         ensures { result ≡ answered_by self }
     {
         match self {
-            OpKind::Enq(_) => What::RetEnq,
-            OpKind::Not(_) => What::RetNot,
-            OpKind::Deq(value) => What::RetDeq(value),
-            OpKind::Empty => What::RetEmpty,
+            OpKind::Enqueue(_) => What::RetEnq,
+            OpKind::EnqueueFailed(_) => What::RetNot,
+            OpKind::Dequeue(value) => What::RetDeq(value),
+            OpKind::DequeueEmpty => What::RetEmpty,
         }
     }
 }

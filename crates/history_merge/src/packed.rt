@@ -121,10 +121,10 @@ impl PackedOperation {
             ret: u64::from(self.upper_ret) * LOWER + u64::from(self.ret),
             thread: self.thread,
             kind: match self.tag {
-                Tag::Enq => OpKind::Enq(value),
-                Tag::Deq => OpKind::Deq(value),
-                Tag::Empty => OpKind::Empty,
-                Tag::Not => OpKind::Not(value),
+                Tag::Enq => OpKind::Enqueue(value),
+                Tag::Deq => OpKind::Dequeue(value),
+                Tag::Empty => OpKind::DequeueEmpty,
+                Tag::Not => OpKind::EnqueueFailed(value),
             },
         }
     }
@@ -149,10 +149,10 @@ fn tag_of(kind: OpKind) -> Tag
     ensures { result ≡ tag_of kind }
 {
     match kind {
-        OpKind::Enq(_) => Tag::Enq,
-        OpKind::Deq(_) => Tag::Deq,
-        OpKind::Empty => Tag::Empty,
-        OpKind::Not(_) => Tag::Not,
+        OpKind::Enqueue(_) => Tag::Enq,
+        OpKind::Dequeue(_) => Tag::Deq,
+        OpKind::DequeueEmpty => Tag::Empty,
+        OpKind::EnqueueFailed(_) => Tag::Not,
     }
 }
 
@@ -162,7 +162,7 @@ fn value_of(kind: OpKind) -> u64
     ensures { result ≡ value_of kind }
 {
     match kind {
-        OpKind::Enq(value) | OpKind::Deq(value) | OpKind::Not(value) => value,
-        OpKind::Empty => 0,
+        OpKind::Enqueue(value) | OpKind::Dequeue(value) | OpKind::EnqueueFailed(value) => value,
+        OpKind::DequeueEmpty => 0,
     }
 }

@@ -192,6 +192,6 @@ fn enqueue_at(time: u64, value: u64) -> PackedOperation
         call: time,
         ret: time,
         thread: 0,
-        kind: OpKind::Enq(value),
+        kind: OpKind::Enqueue(value),
     })
 }

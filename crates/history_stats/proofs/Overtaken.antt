@@ -16,7 +16,7 @@ use Rattle.history_merge.specs.Initial.{HistoryView, enqueues_from, initial_enqu
 use Rattle.history_merge.specs.Operations.{operations_of}
 use Rattle.history_merge.specs.declared.operation.Operation.{Operation}
 use Rattle.history_merge.specs.declared.operation.OpKind.{OpKind}
-use Rattle.history_merge.specs.declared.operation.OpKind.TheVariants.{Enq, Deq, Empty, Not}
+use Rattle.history_merge.specs.declared.operation.OpKind.TheVariants.{Enqueue, Dequeue, DequeueEmpty, EnqueueFailed}
 use Rattle.history_stats.specs.AtOnce.{stay_count, values_put_before}
 use Rattle.history_merge.specs.Complete.{AreComplete}
 use Rattle.history_stats.specs.Overtaking.{all_operations, overtakings, overtaking_by, overtaking_of, put, values_before}
@@ -154,7 +154,7 @@ module _ {X Y : Type 0} (h : X → Option Y) (key : X → ℕ) (key' : Y → ℕ
           )) more
 
 -- initial values come in by enqueues
-all_enqueued : (P : Operation → Type 0) → ((time v : ℕ) → P (record { call = time; ret = time; thread = 0; kind = Enq v })) → (time : ℕ) (values : List ℕ)
+all_enqueued : (P : Operation → Type 0) → ((time v : ℕ) → P (record { call = time; ret = time; thread = 0; kind = Enqueue v })) → (time : ℕ) (values : List ℕ)
     → All P (enqueues_from time values)
 all_enqueued P each time [] = λ k d below. absurd (omega arith)
 all_enqueued P each time (v ∷ rest) = All-cons P _ (enqueues_from (time + 1) rest) (each time v) (all_enqueued P each (time + 1) rest)
@@ -178,10 +178,10 @@ keeps_ticket count call v found is = here (nat_lt 0 count) is
 
 keeps_later : (all : List Operation) (o : Operation) (kind : OpKind) (found : Overtaking) → overtaking_by all (later_by ORIGIN o) kind ≡ Some found
     → found.ticket + ORIGIN ≡ o.call + ORIGIN
-keeps_later all o (Deq v) found is = keeps_ticket _ o.call v found is
-keeps_later all o Empty found is = absurd (cc)
-keeps_later all o (Enq v) found is = absurd (cc)
-keeps_later all o (Not v) found is = absurd (cc)
+keeps_later all o (Dequeue v) found is = keeps_ticket _ o.call v found is
+keeps_later all o DequeueEmpty found is = absurd (cc)
+keeps_later all o (Enqueue v) found is = absurd (cc)
+keeps_later all o (EnqueueFailed v) found is = absurd (cc)
 
 keeps_call : (all : List Operation) (history : HistoryView) → All (KeepsCall all) (all_operations history)
 keeps_call all history = All-append (KeepsCall all) (initial_enqueues history.initial) (map (later_by ORIGIN) (operations_of history.events))
@@ -201,7 +201,7 @@ overtakings_rise history rise =
 -- the stays give the overtaking of a dequeue as the definition does
 found_alike : (operations : List Operation) (calls : List ℕ) (stays : List Stay) → CountStays operations calls stays → (g : Overtaking → ℕ) (o : Operation) (kind : OpKind)
     → option_map_or (λ t. option_map_or g (overtaking_among calls stays t) 0) (taking_by operations o kind) 0 ≡ option_map_or g (overtaking_by operations o kind) 0
-found_alike operations calls stays counted g o (Deq v) = here (find (λ x. put v x.kind) operations)
+found_alike operations calls stays counted g o (Dequeue v) = here (find (λ x. put v x.kind) operations)
   where
     here : (e : Option Operation)
         → option_map_or (λ t. option_map_or g (overtaking_among calls stays t) 0)
@@ -209,9 +209,9 @@ found_alike operations calls stays counted g o (Deq v) = here (find (λ x. put v
         ≡ option_map_or g (overtaking_of (stay_count o.ret operations (option_map_or (λ x. values_put_before x.call operations) e [])) o.call v) 0
     here None = refl
     here (Some e) = ap (λ n. option_map_or g (overtaking_of n o.call v) 0) (counted e.call o.ret)
-found_alike operations calls stays counted g o Empty = refl
-found_alike operations calls stays counted g o (Enq v) = refl
-found_alike operations calls stays counted g o (Not v) = refl
+found_alike operations calls stays counted g o DequeueEmpty = refl
+found_alike operations calls stays counted g o (Enqueue v) = refl
+found_alike operations calls stays counted g o (EnqueueFailed v) = refl
 
 -- the overtakings found and sorted are those of the definition
 pub found_sorted : (history : HistoryView) (calls : List ℕ) (stays : List Stay) (takings : List Taking) (found sorted : List Overtaking)

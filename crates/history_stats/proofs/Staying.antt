@@ -13,7 +13,7 @@ use Rattle.std.proofs.lemmas.List.Sums.{sum_by-cons, sum_by-append, sum_by_push,
 use Rattle.std.proofs.lemmas.List.Sorted.{sum_by-IsPermutation}
 use Rattle.history_merge.specs.declared.operation.Operation.{Operation}
 use Rattle.history_merge.specs.declared.operation.OpKind.{OpKind}
-use Rattle.history_merge.specs.declared.operation.OpKind.TheVariants.{Enq, Deq, Empty, Not}
+use Rattle.history_merge.specs.declared.operation.OpKind.TheVariants.{Enqueue, Dequeue, DequeueEmpty, EnqueueFailed}
 use Rattle.history_stats.specs.AtOnce.{gave, is_taken_before, put_value, stay_count, value_put_before, values_put_before}
 use Rattle.history_stats.specs.Inner.AtOnce.{count_before}
 use Rattle.history_stats.specs.Inner.Overtaking.{CountStays, stays_at}
@@ -62,11 +62,11 @@ pub is_at : {X : Type 0} (xs : List X) (i : ℕ) (item x : X) → item ≡ get_o
 is_at xs i item x at is = is ∙ at ∙ ap (get_or xs i) (sym is)
 
 -- an operation other than an enqueue puts no value
-pub puts_none : (kind : OpKind) → ((v : ℕ) → kind ≡ Enq v → ⊥) → put_value kind ≡ None
-puts_none (Enq v) other = absurd (other v refl)
-puts_none (Deq v) other = refl
-puts_none Empty other = refl
-puts_none (Not v) other = refl
+pub puts_none : (kind : OpKind) → ((v : ℕ) → kind ≡ Enqueue v → ⊥) → put_value kind ≡ None
+puts_none (Enqueue v) other = absurd (other v refl)
+puts_none (Dequeue v) other = refl
+puts_none DequeueEmpty other = refl
+puts_none (EnqueueFailed v) other = refl
 
 -- the values of one more operation
 put_more : (p : ℕ) (operations : List Operation) (i : ℕ) (d : Operation) → i < length operations

@@ -6,7 +6,7 @@ use Rattle.history_merge.specs.Initial.{HistoryView}
 use Rattle.history_merge.specs.Operations.{operations_of}
 use Rattle.history_merge.specs.declared.operation.Operation.{Operation}
 use Rattle.history_merge.specs.declared.operation.OpKind.{OpKind}
-use Rattle.history_merge.specs.declared.operation.OpKind.TheVariants.{Enq, Deq}
+use Rattle.history_merge.specs.declared.operation.OpKind.TheVariants.{Enqueue, Dequeue}
 
 -- the greatest of these numbers over all gaps
 pub record IsMost (number_at : ℕ → ℕ) (most : ℕ) : Type 0 where
@@ -28,12 +28,12 @@ pending_at operations gap = count_by (is_pending_at gap) operations
 
 -- the value that an operation of this kind enqueued
 abbrev pub put_value : OpKind → Option ℕ
-put_value (Enq v) = Some v
+put_value (Enqueue v) = Some v
 put_value _ = None
 
 -- an operation of this kind is a dequeue of the value
 abbrev pub gave : ℕ → OpKind → Bool
-gave v (Deq w) = nat_eq v w
+gave v (Dequeue w) = nat_eq v w
 gave v _ = false
 
 -- the value that the operation enqueued, if it returned before the gap

@@ -5,7 +5,7 @@ use Rattle.event_records.specs.declared.event.Event.{Event}
 use Rattle.event_records.specs.declared.limits.TheConstants.{MAX_THREADS}
 use Rattle.history_merge.specs.declared.operation.Operation.{Operation}
 use Rattle.history_merge.specs.declared.operation.OpKind.{OpKind}
-use Rattle.history_merge.specs.declared.operation.OpKind.TheVariants.{Enq, Deq, Empty, Not}
+use Rattle.history_merge.specs.declared.operation.OpKind.TheVariants.{Enqueue, Dequeue, DequeueEmpty, EnqueueFailed}
 
 -- ---- events
 
@@ -25,22 +25,22 @@ change_count events = count_by (λ pair. not (nat_eq pair.0.thread pair.1.thread
 
 -- a successful enqueue
 abbrev pub is_enqueued : OpKind → Bool
-is_enqueued (Enq v) = true
+is_enqueued (Enqueue v) = true
 is_enqueued _ = false
 
 -- a failed enqueue
 abbrev pub is_refused : OpKind → Bool
-is_refused (Not v) = true
+is_refused (EnqueueFailed v) = true
 is_refused _ = false
 
 -- a dequeue that got a value
 abbrev pub is_dequeued : OpKind → Bool
-is_dequeued (Deq v) = true
+is_dequeued (Dequeue v) = true
 is_dequeued _ = false
 
 -- a dequeue that found the queue empty
 abbrev pub is_empty : OpKind → Bool
-is_empty Empty = true
+is_empty DequeueEmpty = true
 is_empty _ = false
 
 -- the number of operations of a kind

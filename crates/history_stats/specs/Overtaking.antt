@@ -6,7 +6,7 @@ use Rattle.history_merge.specs.Initial.{HistoryView, initial_enqueues, later_by}
 use Rattle.history_merge.specs.Operations.{operations_of}
 use Rattle.history_merge.specs.declared.operation.Operation.{Operation}
 use Rattle.history_merge.specs.declared.operation.OpKind.{OpKind}
-use Rattle.history_merge.specs.declared.operation.OpKind.TheVariants.{Enq, Deq, Empty, Not}
+use Rattle.history_merge.specs.declared.operation.OpKind.TheVariants.{Enqueue, Dequeue, DequeueEmpty, EnqueueFailed}
 use Rattle.history_stats.specs.AtOnce.{stay_count, values_put_before}
 use Rattle.history_stats.specs.declared.overtaking.Overtaking.{Overtaking}
 
@@ -16,7 +16,7 @@ all_operations history = initial_enqueues history.initial ++ map (later_by ORIGI
 
 -- an operation of this kind enqueued the value
 abbrev pub put : ℕ → OpKind → Bool
-put v (Enq w) = nat_eq v w
+put v (Enqueue w) = nat_eq v w
 put v _ = false
 
 -- the values that were enqueued before this one: their enqueues returned before its enqueue was called
@@ -34,7 +34,7 @@ overtaking_of count called v = (if nat_lt 0 count then Some (record { count = co
 
 -- the overtaking of an operation of this kind; none if it overtook no value
 abbrev pub overtaking_by : List Operation → Operation → OpKind → Option Overtaking
-overtaking_by operations o (Deq v) = overtaking_of (overtaken_count operations o.ret v) o.call v
+overtaking_by operations o (Dequeue v) = overtaking_of (overtaken_count operations o.ret v) o.call v
 overtaking_by operations o _ = None
 
 -- the dequeues that certainly overtook a value, in the order of their calls

@@ -101,23 +101,23 @@ pub(crate) fn empty_count(operations: &Operations<'_>) -> usize
 fn is_enqueued(kind: OpKind) -> bool
     ensures { result ≡ is_enqueued kind }
 {
-    matches!(kind, OpKind::Enq(_))
+    matches!(kind, OpKind::Enqueue(_))
 }
 
 pub(crate) fn is_refused(kind: OpKind) -> bool
     ensures { result ≡ is_refused kind }
 {
-    matches!(kind, OpKind::Not(_))
+    matches!(kind, OpKind::EnqueueFailed(_))
 }
 
 fn is_dequeued(kind: OpKind) -> bool
     ensures { result ≡ is_dequeued kind }
 {
-    matches!(kind, OpKind::Deq(_))
+    matches!(kind, OpKind::Dequeue(_))
 }
 
 fn is_empty(kind: OpKind) -> bool
     ensures { result ≡ is_empty kind }
 {
-    matches!(kind, OpKind::Empty)
+    matches!(kind, OpKind::DequeueEmpty)
 }

@@ -40,7 +40,7 @@ fn first_takes(alloc: Global, operations: &Operations<'_>) -> Result<BTreeMap<u6
 {
     let mut takes = BTreeMap::new(alloc);
     for operation in operations.iter() {
-        if let OpKind::Deq(value) = operation.kind {
+        if let OpKind::Dequeue(value) = operation.kind {
             keep_least(&mut takes, value, operation.call)?;
         }
     }
@@ -131,7 +131,7 @@ fn add_one(
     ensures few { OnOk result (vec_len arrivals.new ≤ vec_len arrivals.old + 1) }
 {
     match operation.kind {
-        OpKind::Enq(value) => add_stay(
+        OpKind::Enqueue(value) => add_stay(
             arrivals,
             departures,
             operation.ret,

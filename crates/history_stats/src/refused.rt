@@ -58,7 +58,7 @@ fn first_gone(alloc: Global, operations: &Operations<'_>) -> Result<BTreeMap<u64
 {
     let mut gone = BTreeMap::new(alloc);
     for operation in operations.iter() {
-        if let OpKind::Deq(value) = operation.kind {
+        if let OpKind::Dequeue(value) = operation.kind {
             keep_least(&mut gone, value, operation.ret)?;
         }
     }
@@ -99,7 +99,7 @@ fn add_one(
     ensures few { OnOk result (vec_len arrivals.new ≤ vec_len arrivals.old + 1) }
 {
     match operation.kind {
-        OpKind::Enq(value) => add_stay(
+        OpKind::Enqueue(value) => add_stay(
             arrivals,
             departures,
             operation.call,

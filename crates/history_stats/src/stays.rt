@@ -64,7 +64,7 @@ fn keep_take(takes: &mut BTreeMap<u64, u64>, operation: Operation) -> Result<(),
         ≡ (is_kept_before gap takes.old v || (gave v operation.kind && nat_lt operation.call gap))) }
 {
     match operation.kind {
-        OpKind::Deq(value) => keep_least(takes, value, operation.call),
+        OpKind::Dequeue(value) => keep_least(takes, value, operation.call),
         _ => Ok(()),
     }
 }
@@ -86,7 +86,7 @@ fn all_stays(
     let mut stays = Vec::new(alloc);
     for operation in operations {
         let operation = operation.unpack();
-        if let OpKind::Enq(value) = operation.kind {
+        if let OpKind::Enqueue(value) = operation.kind {
             let taken = calls_before_take(calls, ticket_for(takes, value));
             stays.push(Stay {
                 put: operation.ret,

@@ -58,7 +58,7 @@ fn keep_enqueue(calls: &mut BTreeMap<u64, u64>, operation: Operation) -> Result<
         ≡ option_or (get nat_cmp calls.old v) (if put v operation.kind then Some operation.call else None)) }
 {
     match operation.kind {
-        OpKind::Enq(value) => keep_first(calls, value, operation.call),
+        OpKind::Enqueue(value) => keep_first(calls, value, operation.call),
         _ => Ok(()),
     }
 }
@@ -97,7 +97,7 @@ fn taking_by(enqueue_calls: &BTreeMap<u64, u64>, operation: Operation) -> Option
     ensures { (operations : List Operation) → AreEnqueueCalls operations enqueue_calls.now
         → result ≡ taking_by operations operation operation.kind }
 {
-    let OpKind::Deq(value) = operation.kind else {
+    let OpKind::Dequeue(value) = operation.kind else {
         return None;
     };
     let enqueue_call = enqueue_calls.get(&value).copied()?;

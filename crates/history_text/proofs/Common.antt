@@ -35,7 +35,7 @@ pub use Rattle.text_lines.proofs.Putting.{stops_before, stops_inside}
 pub use Rattle.text_lines.proofs.Tables.{has_bits, is_line_form, numbers_back, parse_line_says, spelled_is_line}
 pub use Rattle.text_lines.proofs.WrittenLines.{all_digits, end_read, field_is_clean, IsLineOf, number_is_field}
 pub use Rattle.history_merge.specs.declared.operation.OpKind.{OpKind}
-pub use Rattle.history_merge.specs.declared.operation.OpKind.TheVariants.{Deq, Empty, Enq, Not}
+pub use Rattle.history_merge.specs.declared.operation.OpKind.TheVariants.{Dequeue, DequeueEmpty, Enqueue, EnqueueFailed}
 pub use Rattle.history_merge.specs.declared.operation.Operation.{Operation}
 pub use Rattle.recorder_core.specs.declared.step.Step.{Step}
 pub use Rattle.claims.specs.Claiming.{line_at}

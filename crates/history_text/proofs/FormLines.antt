@@ -3,8 +3,8 @@
 use Rattle.history_text.proofs.Common.{[], a_value, all_digits, AllByRecursion, and_right, ap, AreOfForm, arith}
 use Rattle.history_text.proofs.Common.{begins_as_end, bytes_eq, claim_line_fields, claim_line_format, claim_line_in}
 use Rattle.history_text.proofs.Common.{ClaimLine, codes, count_fields, count_format, count_forms, count_in, decimal}
-use Rattle.history_text.proofs.Common.{decimal_digit, decimal_nonempty, decimal_step, Deq, draining, drop, drop_more}
-use Rattle.history_text.proofs.Common.{Empty, empty_operation, end_in, end_line, end_ok, end_read, Ending, Enq, Err}
+use Rattle.history_text.proofs.Common.{decimal_digit, decimal_nonempty, decimal_step, Dequeue, draining, drop, drop_more}
+use Rattle.history_text.proofs.Common.{DequeueEmpty, empty_operation, end_in, end_line, end_ok, end_read, Ending, Enqueue, Err}
 use Rattle.history_text.proofs.Common.{event_format, event_forms, event_in, event_of, false, field_is_clean, FieldForm}
 use Rattle.history_text.proofs.Common.{fields_of, Format, front_of, get_or, greatest_value, has_bits, HasClaimLine}
 use Rattle.history_text.proofs.Common.{HasOperationLine, HasStepLine, HasValueInRange, Initial, initial_form}
@@ -12,7 +12,7 @@ use Rattle.history_text.proofs.Common.{initial_forms, initial_of, is_blank, is_i
 use Rattle.history_text.proofs.Common.{IsItemLine, IsKindInRange, IsLineOf, IsPartOfLine, IsSetting, IsSpelled}
 use Rattle.history_text.proofs.Common.{item_at_front, item_in, join_with_byte-slice_split, kind_fields, length}
 use Rattle.history_text.proofs.Common.{length-decimal-le, line, line_at_front, line_of, List, list_all, MAX_INITIAL}
-use Rattle.history_text.proofs.Common.{MAX_THREAD, MAX_TICKET, nat_tests, None, Not, Number, number_is_field}
+use Rattle.history_text.proofs.Common.{MAX_THREAD, MAX_TICKET, nat_tests, None, EnqueueFailed, Number, number_is_field}
 use Rattle.history_text.proofs.Common.{number_of, numbers_back, numbers_in, Ok, Op, Operation, operation_fields}
 use Rattle.history_text.proofs.Common.{operation_format, operation_forms, operation_of, OpKind, parse_line}
 use Rattle.history_text.proofs.Common.{parse_line_says, plain_event, plain_saying, plain_step, read_by, refl, Result}
@@ -222,10 +222,10 @@ module _ (c r t : ℕ) (a : c ≤ MAX_TICKET) (b : r ≤ MAX_TICKET) (few : t �
 
   kind_back : (kind : OpKind) → IsKindInRange kind
       → IsReadAs read_operation (decimal c ∷ decimal r ∷ decimal t ∷ kind_fields kind) (record { call = c; ret = r; thread = t; kind = kind })
-  kind_back (Enq v) range = valued_back v (codes "enq") (Enq 0) range refl (λ n. refl)
-  kind_back (Deq v) range = valued_back v (codes "deq") (Deq 0) range refl (λ n. refl)
-  kind_back Empty range = row_back operation_forms operation_of Empty empty_operation (c ∷ r ∷ t ∷ []) refl refl (λ n. refl) (search rules)
-  kind_back (Not v) range = valued_back v (codes "not") (Not 0) range refl (λ n. refl)
+  kind_back (Enqueue v) range = valued_back v (codes "enq") (Enqueue 0) range refl (λ n. refl)
+  kind_back (Dequeue v) range = valued_back v (codes "deq") (Dequeue 0) range refl (λ n. refl)
+  kind_back DequeueEmpty range = row_back operation_forms operation_of DequeueEmpty empty_operation (c ∷ r ∷ t ∷ []) refl refl (λ n. refl) (search rules)
+  kind_back (EnqueueFailed v) range = valued_back v (codes "not") (EnqueueFailed 0) range refl (λ n. refl)
 
 digits_are_other : (ds : List ℕ) → 0 < length ds → list_all is_ascii_digit ds ≡ true → bytes_eq ds (codes "init") ≡ false
 digits_are_other [] some all = absurd (omega (arith, some))

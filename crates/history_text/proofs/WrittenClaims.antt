@@ -1,7 +1,7 @@
 -- A complete history has a text, and so has the claim of a verdict on a history that has one. Lines at places.
 use Rattle.history_text.proofs.Common.{All, All-contains, All-from_recursion, AllByRecursion, ap, append-nil, ap₂}
 use Rattle.history_text.proofs.Common.{arith, Asked, Bool, claim_line, claim_of, ClaimLine, common_steps, cons_option}
-use Rattle.history_text.proofs.Common.{Contains, Deq, Empty, Event, filter_map, flat_map, flat_map-append}
+use Rattle.history_text.proofs.Common.{Contains, Dequeue, DequeueEmpty, Event, filter_map, flat_map, flat_map-append}
 use Rattle.history_text.proofs.Common.{greatest_value, HasClaimLine, HasEventLine, HasHistoryText, HasOperationLine}
 use Rattle.history_text.proofs.Common.{HasText, HasValueInRange, HasVerdictText, HaveValueLines, HistoryText}
 use Rattle.history_text.proofs.Common.{IsErrAnd, IsKindInRange, length, length-map, line_at, line_text, List, map}
@@ -41,8 +41,8 @@ all_of : {X : Type 0} (P : X → Type 0) (xs : List X) (x : X) → AllByRecursio
 all_of P xs x all among = All-contains P xs x (All-from_recursion P xs all) among
 
 value_by : (kind : OpKind) → HasValueInRange (call_of_kind kind) → HasValueInRange (return_of_kind kind) → IsKindInRange kind
-value_by Empty call answer = tt
-value_by (Deq v) call answer = answer
+value_by DequeueEmpty call answer = tt
+value_by (Dequeue v) call answer = answer
 value_by _ call answer = call
 
 -- each operation of events that have lines has a line

@@ -6,7 +6,7 @@ use Rattle.std.specs.Str.{bytes_eq}
 use Rattle.event_records.specs.declared.limits.TheConstants.{MAX_TICKET, MAX_THREAD, MAX_CLAIM_LINES}
 use Rattle.history_merge.specs.declared.operation.Operation.{Operation}
 use Rattle.history_merge.specs.declared.operation.OpKind.{OpKind}
-use Rattle.history_merge.specs.declared.operation.OpKind.TheVariants.{Enq, Deq, Empty, Not}
+use Rattle.history_merge.specs.declared.operation.OpKind.TheVariants.{Enqueue, Dequeue, DequeueEmpty, EnqueueFailed}
 use Rattle.claims.specs.declared.claimed.ViolationKind.{ViolationKind}
 use Rattle.claims.specs.declared.claimed.ClaimLine.{ClaimLine}
 use Rattle.claims.specs.declared.claimed.ClaimLine.TheVariants.{Op, Initial}
@@ -24,10 +24,10 @@ use Rattle.history_text.specs.Verdicts.{operation_fields, claim_line_fields, kin
 
 -- the value, if there is one, has 64 bits
 abbrev pub IsKindInRange : OpKind → Type 0
-IsKindInRange Empty = Unit {0}
-IsKindInRange (Enq v) = v ≤ greatest_value
-IsKindInRange (Deq v) = v ≤ greatest_value
-IsKindInRange (Not v) = v ≤ greatest_value
+IsKindInRange DequeueEmpty = Unit {0}
+IsKindInRange (Enqueue v) = v ≤ greatest_value
+IsKindInRange (Dequeue v) = v ≤ greatest_value
+IsKindInRange (EnqueueFailed v) = v ≤ greatest_value
 
 -- operations that have a line
 pub record HasOperationLine (o : Operation) : Type 0 where
@@ -47,15 +47,15 @@ valued_operation word = a_ticket ∷ a_ticket ∷ a_thread ∷ Word word ∷ a_v
 -- the forms of operation lines, each with the kind of its operations, with 0 as the value
 abbrev pub operation_forms : Table OpKind
 operation_forms =
-    (Enq 0, valued_operation (codes "enq")) ∷ (Deq 0, valued_operation (codes "deq")) ∷ (Empty, empty_operation)
-    ∷ (Not 0, valued_operation (codes "not")) ∷ []
+    (Enqueue 0, valued_operation (codes "enq")) ∷ (Dequeue 0, valued_operation (codes "deq")) ∷ (DequeueEmpty, empty_operation)
+    ∷ (EnqueueFailed 0, valued_operation (codes "not")) ∷ []
 
 -- the kind with its value replaced, if it has one
 abbrev pub kind_with : OpKind → ℕ → OpKind
-kind_with (Enq _) v = Enq v
-kind_with (Deq _) v = Deq v
-kind_with Empty v = Empty
-kind_with (Not _) v = Not v
+kind_with (Enqueue _) v = Enqueue v
+kind_with (Dequeue _) v = Dequeue v
+kind_with DequeueEmpty v = DequeueEmpty
+kind_with (EnqueueFailed _) v = EnqueueFailed v
 
 -- the operation of a line, from its form and its numbers
 abbrev pub operation_of : OpKind → List ℕ → Operation

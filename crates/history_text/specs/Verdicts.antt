@@ -3,7 +3,7 @@ use Rattle.std.specs.Prelude.{ℕ, List, [], ◌∷◌, ◌++◌, codes, decimal
 use Rattle.std.specs.List.{flat_map}
 use Rattle.history_merge.specs.declared.operation.Operation.{Operation}
 use Rattle.history_merge.specs.declared.operation.OpKind.{OpKind}
-use Rattle.history_merge.specs.declared.operation.OpKind.TheVariants.{Enq, Deq, Empty, Not}
+use Rattle.history_merge.specs.declared.operation.OpKind.TheVariants.{Enqueue, Dequeue, DequeueEmpty, EnqueueFailed}
 use Rattle.claims.specs.declared.claimed.ViolationKind.{ViolationKind}
 use Rattle.claims.specs.declared.claimed.ViolationKind.TheVariants.{VFresh, VRepeat, VOrd, VWit}
 use Rattle.claims.specs.declared.claimed.ClaimLine.{ClaimLine}
@@ -18,10 +18,10 @@ pub use Rattle.claims.specs.Claiming.{verdict_places, violation_kind, IsWithin, 
 
 -- the words of a kind of operation, with its value
 abbrev pub kind_fields : OpKind → List (List ℕ)
-kind_fields (Enq v) = codes "enq" ∷ decimal v ∷ []
-kind_fields (Deq v) = codes "deq" ∷ decimal v ∷ []
-kind_fields Empty = codes "empty" ∷ []
-kind_fields (Not v) = codes "not" ∷ decimal v ∷ []
+kind_fields (Enqueue v) = codes "enq" ∷ decimal v ∷ []
+kind_fields (Dequeue v) = codes "deq" ∷ decimal v ∷ []
+kind_fields DequeueEmpty = codes "empty" ∷ []
+kind_fields (EnqueueFailed v) = codes "not" ∷ decimal v ∷ []
 
 -- the fields of an operation: call, return, thread, and kind
 abbrev pub operation_fields : Operation → List (List ℕ)

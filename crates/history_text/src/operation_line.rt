@@ -9,10 +9,10 @@ ghost use Rattle.history_text.specs.Claims.{operation_format, claim_line_format,
 
 use crate::event_line::{THREAD, TICKET, VALUE};
 use crate::item::Item;
+use claims::{ClaimLine, ViolationKind};
 use event_records::{MAX_CLAIM_LINES, MAX_THREAD};
 use history_merge::{OpKind, Operation};
 use text_lines::{Field, NumberFields, TextFault, split_field};
-use claims::{ClaimLine, ViolationKind};
 
 /// Parses the first line of a verdict. Returns no kind for a `YES`, the kind for a `NO`.
 pub(crate) fn answer_in(bytes: &[u8]) -> Option<Option<ViolationKind>>
@@ -36,19 +36,19 @@ pub(crate) fn answer_in(bytes: &[u8]) -> Option<Option<ViolationKind>>
 /// The forms of operation lines, each with the kind of its operations, with 0 as the value.
 const OPERATION_FORMS: [(OpKind, &[Field]); 4] = [
     (
-        OpKind::Enq(0),
+        OpKind::Enqueue(0),
         &[TICKET, TICKET, THREAD, Field::Word(b"enq"), VALUE],
     ),
     (
-        OpKind::Deq(0),
+        OpKind::Dequeue(0),
         &[TICKET, TICKET, THREAD, Field::Word(b"deq"), VALUE],
     ),
     (
-        OpKind::Empty,
+        OpKind::DequeueEmpty,
         &[TICKET, TICKET, THREAD, Field::Word(b"empty")],
     ),
     (
-        OpKind::Not(0),
+        OpKind::EnqueueFailed(0),
         &[TICKET, TICKET, THREAD, Field::Word(b"not"), VALUE],
     ),
 ];
@@ -61,10 +61,10 @@ fn kind_with(kind: OpKind, value: u64) -> OpKind
     ensures { result ≡ wanted.kind_with kind value }
 {
     match kind {
-        OpKind::Enq(_) => OpKind::Enq(value),
-        OpKind::Deq(_) => OpKind::Deq(value),
-        OpKind::Empty => OpKind::Empty,
-        OpKind::Not(_) => OpKind::Not(value),
+        OpKind::Enqueue(_) => OpKind::Enqueue(value),
+        OpKind::Dequeue(_) => OpKind::Dequeue(value),
+        OpKind::DequeueEmpty => OpKind::DequeueEmpty,
+        OpKind::EnqueueFailed(_) => OpKind::EnqueueFailed(value),
     }
 }
 

@@ -30,12 +30,12 @@ use crate::schedule::{Schedule, Steps};
 use crate::source_end::{BUFFER_LEN, SourceEnd, read_at};
 use crate::value_line::version_in;
 use crate::version::Version;
+use claims::{ClaimLines, Claimed, Lines, ViolationKind};
 use history_merge::HistoryBuilder;
 pub use pending::read_pending;
 use std::alloc::Global;
 use std::marker::Model;
 use text_lines::{LONGEST_LINE, Line, ReadFailed, TextFault, TextSource};
-use claims::{ClaimLines, Claimed, Lines, ViolationKind};
 
 /// A reader of texts, one after another, from one source.
 ///

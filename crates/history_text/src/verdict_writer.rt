@@ -15,10 +15,10 @@ ghost use Rattle.text_lines.specs.Writing.{Puts, Writes, PutsText};
 use crate::history_writer::write_history;
 use crate::lines::{WritesLine, put_each};
 use crate::version::Version;
+use claims::{ClaimLine, LinePlace, Verdict};
 use history_merge::{History, OpId, OpKind, Operation, Operations};
 use text_lines::{TextSink, WriteBuffer, WriteFault, write_piece};
 use value_match::{CoverStep, Violation};
-use claims::{ClaimLine, LinePlace, Verdict};
 
 #[inline(always)]
 fn push_kind(kept: &mut WriteBuffer, kind: OpKind, word: &'static [u8; 4])
@@ -28,11 +28,11 @@ fn push_kind(kept: &mut WriteBuffer, kind: OpKind, word: &'static [u8; 4])
     ensures short { length kept.new ≤ length kept.old + 29 }
 {
     match kind {
-        OpKind::Enq(value) | OpKind::Deq(value) | OpKind::Not(value) => {
+        OpKind::Enqueue(value) | OpKind::Dequeue(value) | OpKind::EnqueueFailed(value) => {
             kept.push(word);
             kept.push_number(value);
         }
-        OpKind::Empty => kept.push(b"empty"),
+        OpKind::DequeueEmpty => kept.push(b"empty"),
     }
 }
 
@@ -42,9 +42,9 @@ fn word_of(kind: OpKind) -> &'static [u8; 4]
     ensures { result.now ≡ word_of kind }
 {
     match kind {
-        OpKind::Enq(_) => b"enq ",
-        OpKind::Deq(_) => b"deq ",
-        OpKind::Not(_) | OpKind::Empty => b"not ",
+        OpKind::Enqueue(_) => b"enq ",
+        OpKind::Dequeue(_) => b"deq ",
+        OpKind::EnqueueFailed(_) | OpKind::DequeueEmpty => b"not ",
     }
 }
 

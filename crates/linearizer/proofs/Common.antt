@@ -10,13 +10,13 @@ pub use Rattle.history_merge.specs.Legal.{ArePlacesOf, IsLegalOrder}
 pub use Rattle.history_merge.specs.Operations.{Did, IsAt, IsInWindow, NoneDid, Precedes}
 pub use Rattle.history_merge.specs.Queue.{IsAccepted}
 pub use Rattle.history_merge.specs.declared.operation.OpKind.{OpKind}
-pub use Rattle.history_merge.specs.declared.operation.OpKind.TheVariants.{Deq, Empty, Enq, Not}
+pub use Rattle.history_merge.specs.declared.operation.OpKind.TheVariants.{Dequeue, DequeueEmpty, Enqueue, EnqueueFailed}
 pub use Rattle.history_merge.specs.declared.operation.Operation.{Operation}
 pub use Rattle.linearizer.specs.Inner.Merging.{IsAhead, IsDequeueFrom, IsEnqueueFrom, IsMerge, IsMergedUpTo}
 pub use Rattle.linearizer.specs.Inner.Merging.{IsNoopFrom, IsValueFrom, NoneBelow}
 pub use Rattle.linearizer.specs.Inner.Placement.{Adds, AreCalledInTime, AreEnqueueGaps, dequeues_of, elements_at}
 pub use Rattle.linearizer.specs.Inner.Placement.{enqueues_of, gaps_in, HoldsNoops, HoldsUpTo, IsCalledInRange}
-pub use Rattle.linearizer.specs.Inner.Placement.{IsNoopAt, IsOrderOf, IsPlaced, IsToldAt, lives_in, NeverFall, noop_at}
+pub use Rattle.linearizer.specs.Inner.Placement.{IsNoopAt, IsOrderOf, IsPlaced, IsAtHistoryPlace, lives_in, NeverFall, noop_at}
 pub use Rattle.linearizer.specs.Inner.Placement.{noops_in, ordered_lives, place_of as told_of, Placed, placed_in}
 pub use Rattle.linearizer.specs.Inner.Placement.{places_in, PlacesValues, position_of}
 pub use Rattle.linearizer.specs.Inner.Sweep.{AreByTime, IsDequeuedAt, IsFirstLeft, IsInOrder, IsLeft, IsTaken}
@@ -74,14 +74,14 @@ pub use Rattle.value_match.specs.Inner.Accepted.{operation_at}
 pub use Rattle.value_match.specs.Lives.{AreLeastFreeGaps, call_or_never, Course, course, course_of, dequeue_call}
 pub use Rattle.value_match.specs.Lives.{dequeue_of, dequeue_return, enqueue_call, enqueue_of, enqueue_return}
 pub use Rattle.value_match.specs.Lives.{entered_by, HoldsPlaces, is_dequeue_of, is_empty_answer, is_empty_kind}
-pub use Rattle.value_match.specs.Lives.{is_refused, is_refused_kind, IsFreeGap, IsLeastFreeGap, IsLife, IsMaybeAt}
+pub use Rattle.value_match.specs.Lives.{is_failed, is_failed_kind, IsFreeGap, IsLeastFreeGap, IsLife, IsMaybeAt}
 pub use Rattle.value_match.specs.Lives.{leaves_from, life_from, lives_of, operations_of_life, return_or_never, timed}
 pub use Rattle.value_match.specs.Times.{time_of}
-pub use Rattle.value_match.specs.Inner.Told.{timeline_of}
+pub use Rattle.value_match.specs.Inner.HistoryPlaces.{timeline_of}
 pub use Rattle.value_match.specs.Inner.Courses.{on}
 pub use Rattle.value_match.specs.Outcome.{HoldsValues, IsMaybeOperation, IsNamed, IsOperation, IsSource}
-pub use Rattle.value_match.proofs.ToldPlaces.{clear_course, clear_life, clear_on, life_value, mapped_option}
-pub use Rattle.value_match.proofs.ToldPlaces.{operation_on, same_lives, value_lives}
+pub use Rattle.value_match.proofs.HistoryPlaces.{clear_course, clear_life, clear_on, life_value, mapped_option}
+pub use Rattle.value_match.proofs.HistoryPlaces.{operation_on, same_lives, value_lives}
 pub use Rattle.value_match.proofs.Agreeing.{Agree, agree_back, Carries, least_of, no_order_of}
 pub use Rattle.value_match.specs.Violations.{IsClear, NoOrderViolation, Overtakes}
 pub use Rattle.value_match.specs.declared.life.Life.{Life}

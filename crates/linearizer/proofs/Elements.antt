@@ -4,17 +4,17 @@ use Rattle.linearizer.proofs.Common.{AllPairs-cons, AllZip, AllZip-left, AllZip-
 use Rattle.linearizer.proofs.Common.{arith, Bool, call_by_return, cases_Bool, cases_eq, clear_course, clear_on, cond}
 use Rattle.linearizer.proofs.Common.{cons_option, Contains, Contains-append_cases}
 use Rattle.linearizer.proofs.Common.{Contains-get_or, Contains-permutation, contains_at}
-use Rattle.linearizer.proofs.Common.{contains_cons, Contents, Course, course_of, elements_at, Empty, false}
+use Rattle.linearizer.proofs.Common.{contains_cons, Contents, Course, course_of, elements_at, DequeueEmpty, false}
 use Rattle.linearizer.proofs.Common.{filter, filter_map, filter_map-append, flat_map, get_or}
 use Rattle.linearizer.proofs.Common.{get_or-map, get_or_from_slice_get, HoldsPlaces, HoldsValues, inl, inr}
-use Rattle.linearizer.proofs.Common.{is_empty_answer, is_empty_kind, is_refused, is_refused_kind, IsCalledInRange}
+use Rattle.linearizer.proofs.Common.{is_empty_answer, is_empty_kind, is_failed, is_failed_kind, IsCalledInRange}
 use Rattle.linearizer.proofs.Common.{IsClear, IsLeastFreeGap, IsNoopAt}
 use Rattle.linearizer.proofs.Common.{IsOperation, IsOrderOf, IsPermutation, IsPermutation-cons}
 use Rattle.linearizer.proofs.Common.{IsPermutation-keeps, IsPermutation-refl, IsPermutation-remove, IsPermutation-sym}
 use Rattle.linearizer.proofs.Common.{IsPermutation-trans, IsPositionFor, IsSomeAnd, IsValueOrder, kept, later_by}
 use Rattle.linearizer.proofs.Common.{least_of, length, length-map, length-swap, Life}
 use Rattle.linearizer.proofs.Common.{List, lives_in, map, mapped_option, MatchedValue, MatchOption-at_some}
-use Rattle.linearizer.proofs.Common.{MAX_MATCHED, MAX_TIME, None, noop_position, Not, not_in_none, on, one_deeper}
+use Rattle.linearizer.proofs.Common.{MAX_MATCHED, MAX_TIME, None, noop_position, EnqueueFailed, not_in_none, on, one_deeper}
 use Rattle.linearizer.proofs.Common.{one_more, Operation, operation_at, operation_on, OpKind, Option, option_map}
 use Rattle.linearizer.proofs.Common.{ordered_lives, ORIGIN, pairs_at, passed_filter, place_of, PLACES, places_in, refl}
 use Rattle.linearizer.proofs.Common.{remove, return_in_range, slice_get, slice_get-map}
@@ -159,24 +159,24 @@ module _ (history : Contents) (clear : IsClear (course_of history)) where
   })
     where
       stands_empty : (lives : List Life) (kind : OpKind) → is_empty_kind kind ≡ true → IsPositionFor (on all) lives is.o kind (noop_position is.o gap)
-      stands_empty lives Empty empty = (gap, least_of (course_of history) (on all) (clear_course history.initial history.operations clear) is.o gap free, refl)
+      stands_empty lives DequeueEmpty empty = (gap, least_of (course_of history) (on all) (clear_course history.initial history.operations clear) is.o gap free, refl)
       stands_empty lives _ empty = cc
 
 -- a failed enqueue is added at its call
-pub adds_refused : (history : Contents) (k p call : ℕ) (old new : List Timed) (is : IsListed history is_refused_kind k p)
-    → Adds history (take k (filter is_refused (timed history.operations))) old new → call ≡ (operation_at history.operations p).call + ORIGIN
-    → Adds history (take (k + 1) (filter is_refused (timed history.operations))) old (new ++ record { time = call; place = p } ∷ [])
-adds_refused history k p call old new is adds calls = adds_more history _ k is.o old new _ adds is.is_listed (record {
+pub adds_failed : (history : Contents) (k p call : ℕ) (old new : List Timed) (is : IsListed history is_failed_kind k p)
+    → Adds history (take k (filter is_failed (timed history.operations))) old new → call ≡ (operation_at history.operations p).call + ORIGIN
+    → Adds history (take (k + 1) (filter is_failed (timed history.operations))) old (new ++ record { time = call; place = p } ∷ [])
+adds_failed history k p call old new is adds calls = adds_more history _ k is.o old new _ adds is.is_listed (record {
   at = is.at;
   stands = λ lives. subst (λ gap. IsPositionFor (on (timeline_of history)) lives is.o is.o.kind (noop_position is.o gap))
       (sym (calls ∙ ap (λ (o : Operation). o.call) (read_at history.operations p is.o is.at)))
-      (stands_refused lives is.o.kind (passed_filter is_refused (timed history.operations) is.o (contains_at _ k is.o is.is_listed)).1);
+      (stands_failed lives is.o.kind (passed_filter is_failed (timed history.operations) is.o (contains_at _ k is.o is.is_listed)).1);
 })
   where
-    stands_refused : (lives : List Life) (kind : OpKind) → is_refused_kind kind ≡ true
+    stands_failed : (lives : List Life) (kind : OpKind) → is_failed_kind kind ≡ true
         → IsPositionFor (on (timeline_of history)) lives is.o kind (noop_position is.o is.o.call)
-    stands_refused lives (Not v) refused = refl
-    stands_refused lives _ refused = cc
+    stands_failed lives (EnqueueFailed v) failed = refl
+    stands_failed lives _ failed = cc
 
 -- the gap paired with an empty dequeue
 pub gap_beside : (c : Course) (listed : List Operation) (gaps : List ℕ) (k gap d : ℕ) (o : Operation)

@@ -14,7 +14,7 @@ use Rattle.linearizer.proofs.Common.{IsMaybeOperation, IsMerge, IsMergedUpTo, Is
 use Rattle.linearizer.proofs.Common.{IsOrderOf, IsPermutation, IsPermutation-append_left, IsPermutation-cons}
 use Rattle.linearizer.proofs.Common.{IsPermutation-middle, IsPermutation-refl, IsPermutation-sym}
 use Rattle.linearizer.proofs.Common.{IsPermutation-to_front, IsPermutation-trans, IsPlaced, IsPositionFor, IsSource}
-use Rattle.linearizer.proofs.Common.{IsToldAt, IsTrue, IsValueFrom, IsValueOrder, leaves_from, length, Life, List, map}
+use Rattle.linearizer.proofs.Common.{IsAtHistoryPlace, IsTrue, IsValueFrom, IsValueOrder, leaves_from, length, Life, List, map}
 use Rattle.linearizer.proofs.Common.{map-append, mapped_option, MatchedValue, MatchOption, max, MAX_INITIAL, nat_lt}
 use Rattle.linearizer.proofs.Common.{NeverFall, None, NoneBelow, on, one_at, Operation, Option, option_map}
 use Rattle.linearizer.proofs.Common.{ordered_lives, other_dequeues, pairs_at, Placed, placed_in}
@@ -119,7 +119,7 @@ all_placed history order i j left placed is all_in all_out so_far =
 
 -- the enqueue that a value comes from has its place, that of an initial value has none
 source_told : (history : Contents) (source : Source) (o : Operation) → length history.initial ≤ MAX_INITIAL
-    → IsSource history.initial history.operations source o → IsToldAt history.operations (told_of source) o
+    → IsSource history.initial history.operations source o → IsAtHistoryPlace history.operations (told_of source) o
 source_told history (source.Enq place) o few at = at
 source_told history (source.Initial place) o few at =
     let v = mapped_option (initial_enqueue (length history.initial) place) (slice_get history.initial place) o at in

@@ -5,18 +5,18 @@ use Rattle.linearizer.proofs.Common.{Adds, Agree, All, All-cons, All-head, All-n
 use Rattle.linearizer.proofs.Common.{AllPairs, AllPairs-cons, AllZip, ap, ap₂, AreComplete, AreLeastFreeGaps, arith}
 use Rattle.linearizer.proofs.Common.{Bool, call_before_return, cases_lt, clear_course, clear_on, cond}
 use Rattle.linearizer.proofs.Common.{cons_option, Contains, Contains-permutation, contains_at, contains_cons, Contents}
-use Rattle.linearizer.proofs.Common.{Course, course, course_of, Deq, dequeue_gap, dequeue_of, dequeue_position}
-use Rattle.linearizer.proofs.Common.{dequeues_of, Did, did_dequeue, Empty, Enq, enqueue_gap, enqueue_of}
+use Rattle.linearizer.proofs.Common.{Course, course, course_of, Dequeue, dequeue_gap, dequeue_of, dequeue_position}
+use Rattle.linearizer.proofs.Common.{dequeues_of, Did, did_dequeue, DequeueEmpty, Enqueue, enqueue_gap, enqueue_of}
 use Rattle.linearizer.proofs.Common.{enqueue_position, enqueues, enqueues_of, false, filter, flat_map, get_or}
 use Rattle.linearizer.proofs.Common.{get_or-map, get_or_from_slice_get, HoldsNoops, inl, inr, is_empty_answer}
-use Rattle.linearizer.proofs.Common.{is_empty_kind, is_refused, is_refused_kind, IsAccepted, IsCalledInRange}
+use Rattle.linearizer.proofs.Common.{is_empty_kind, is_failed, is_failed_kind, IsAccepted, IsCalledInRange}
 use Rattle.linearizer.proofs.Common.{IsChosenOrder, IsClear, IsLegalOrder, IsLife, IsNonDecreasingBy, IsNoopAt}
 use Rattle.linearizer.proofs.Common.{IsOperation, IsPermutation, IsPermutation-append_left, IsPermutation-cons}
 use Rattle.linearizer.proofs.Common.{IsPermutation-map, IsPermutation-middle, IsPermutation-refl, IsPermutation-sym}
 use Rattle.linearizer.proofs.Common.{IsPermutation-trans, IsPlaced, IsPositionFor, IsPositionOf, IsValueOrder}
 use Rattle.linearizer.proofs.Common.{later_by, least_of, length, length-map, Life, List, lives_of, map, MAX_MATCHED}
 use Rattle.linearizer.proofs.Common.{NeverFall, no_enqueue, None, noop_answers, noop_at, noop_position, noops_in}
-use Rattle.linearizer.proofs.Common.{NoOrderViolation, Not, not_in_none, on, one_deeper, Operation, operation_at}
+use Rattle.linearizer.proofs.Common.{NoOrderViolation, EnqueueFailed, not_in_none, on, one_deeper, Operation, operation_at}
 use Rattle.linearizer.proofs.Common.{operation_on, operations_of_life, OpKind, Option, option_map, option_to_list}
 use Rattle.linearizer.proofs.Common.{ORIGIN, pairs_at, passed_filter, passes_filter, place_of, placed_in, PLACES}
 use Rattle.linearizer.proofs.Common.{Position, Precedes, refl, same_lives, slice_get, slice_get-get_or, slice_get-map}
@@ -40,18 +40,18 @@ use Rattle.history_merge.proofs.Lists.{at_place, into_flat_map, AllPairs-tail, p
 -- a position lies in the window of its operation, or just before
 in_window_for : (operations : List Operation) (lives : List Life) → IsClear (on operations) → NoOrderViolation (on operations) → IsValueOrder (on operations) lives
     → (o : Operation) → Contains operations o → (k : OpKind) → o.kind ≡ k → (p : Position) → IsPositionFor (on operations) lives o k p → IsAround o p.gap
-in_window_for operations lives clear none order o among (Enq v) is p stands =
+in_window_for operations lives clear none order o among (Enqueue v) is p stands =
     let window = enqueue_gap_in_window operations lives clear none order stands.0 stands.1 stands.2 in
     subst (λ x. IsAround x p.gap) stands.3 (subst (λ c. IsAround (enqueue_of stands.1) c) (sym (ap (λ p. p.gap) stands.4)) window)
-in_window_for operations lives clear none order o among (Deq v) is p stands =
+in_window_for operations lives clear none order o among (Dequeue v) is p stands =
     let window = dequeue_gap_in_window operations lives clear none order stands.0 stands.1 o stands.2 stands.3 in
     let gap : p.gap ≡ dequeue_gap lives stands.0 = ap (λ p. p.gap) stands.4 in
     (omega (arith, window.0), omega (arith, window.1))
-in_window_for operations lives clear none order o among Empty is p stands =
+in_window_for operations lives clear none order o among DequeueEmpty is p stands =
     let gap : p.gap ≡ stands.0 = ap (λ p. p.gap) stands.2 in
     (omega (arith, stands.1.in_window.0), omega (arith, stands.1.in_window.1))
-in_window_for operations lives clear none order o among (Not v) is p stands =
-    let less = call_before_return operations o clear.complete among (no_enqueue o (Not v) is refl) in
+in_window_for operations lives clear none order o among (EnqueueFailed v) is p stands =
+    let less = call_before_return operations o clear.complete among (no_enqueue o (EnqueueFailed v) is refl) in
     let gaps : p.gap ≡ o.call = ap (λ p. p.gap) stands in
     (omega arith, omega arith)
 
@@ -76,7 +76,7 @@ module _ (operations order : List Operation) (clear : IsClear (on operations)) (
       let x = at_place lives i within in
       let is = is_life_at operations lives i x.0 values x.1 in
       let found = position_beside (enqueue_of x.0) is.1.0 in
-      subst (Contains chosen.positions) (one_position operations lives clear values (enqueue_of x.0) (Enq is.0) found.0 (enqueue_position lives i)
+      subst (Contains chosen.positions) (one_position operations lives clear values (enqueue_of x.0) (Enqueue is.0) found.0 (enqueue_position lives i)
       (subst (λ k. IsPositionFor (on operations) lives (enqueue_of x.0) k found.0) is.1.1 found.2) (i, x.0, x.1, refl, refl)) found.1
 
   each_dequeue_stands : (i : ℕ) → i < length lives → IsDequeued lives i → Contains chosen.positions (dequeue_position lives i)
@@ -84,7 +84,7 @@ module _ (operations order : List Operation) (clear : IsClear (on operations)) (
       let is = is_life_at operations lives i life values at in
       let did = did_dequeue operations life d is dequeues in
       let found = position_beside d did.0 in
-      subst (Contains chosen.positions) (one_position operations lives clear values d (Deq is.0) found.0 (dequeue_position lives i)
+      subst (Contains chosen.positions) (one_position operations lives clear values d (Dequeue is.0) found.0 (dequeue_position lives i)
       (subst (λ k. IsPositionFor (on operations) lives d k found.0) did.1 found.2) (i, life, at, dequeues, refl)) found.1
 
   accepted : IsAccepted [] (map (λ o. o.kind) order)
@@ -257,10 +257,10 @@ one_list {X} Before one_way (x ∷ xs) (y ∷ ys) rise_x rise_y into back =
 -- courses that agree give an operation the same position
 pub position_along : (c d : Course) → Agree c d → (lives : List Life) (o : Operation) (k : OpKind) (p : Position) → IsPositionFor c lives o k p
     → IsPositionFor d lives o k p
-position_along c d agree _ o (Enq v) p at = at
-position_along c d agree _ o (Deq v) p at = at
-position_along c d agree _ o Empty p at = (at.0, least_of c d agree o at.0 at.1, at.2)
-position_along c d agree _ o (Not v) p at = at
+position_along c d agree _ o (Enqueue v) p at = at
+position_along c d agree _ o (Dequeue v) p at = at
+position_along c d agree _ o DequeueEmpty p at = (at.0, least_of c d agree o at.0 at.1, at.2)
+position_along c d agree _ o (EnqueueFailed v) p at = at
 
 -- x and y have positions, and that of x comes before that of y
 abbrev AreBefore : Course → List Life → Operation → Operation → Type 0
@@ -320,28 +320,28 @@ by_class (life ∷ lives) = IsPermutation-cons _ _ _ (step (dequeue_of life) (by
         (IsPermutation-middle _ d _))
 
 abbrev moves_kind : OpKind → Bool
-moves_kind (Enq v) = true
-moves_kind (Deq v) = true
-moves_kind Empty = false
-moves_kind (Not v) = false
+moves_kind (Enqueue v) = true
+moves_kind (Dequeue v) = true
+moves_kind DequeueEmpty = false
+moves_kind (EnqueueFailed v) = false
 
 -- returns whether the operation enqueued or dequeued a value
 abbrev moves_value : Operation → Bool
 moves_value o = moves_kind o.kind
 
 split_by_kind : (operations : List Operation) → IsPermutation operations
-    (filter moves_value operations ++ filter is_empty_answer operations ++ filter is_refused operations)
+    (filter moves_value operations ++ filter is_empty_answer operations ++ filter is_failed operations)
 split_by_kind [] = IsPermutation-refl []
 split_by_kind (o ∷ operations) =
-    step (filter moves_value operations) (filter is_empty_answer operations) (filter is_refused operations) (split_by_kind operations) o.kind
+    step (filter moves_value operations) (filter is_empty_answer operations) (filter is_failed operations) (split_by_kind operations) o.kind
   where
     step : (xs ys zs : List Operation) → IsPermutation operations (xs ++ ys ++ zs) → (k : OpKind)
-        → IsPermutation (o ∷ operations) (cond (moves_kind k) (o ∷ xs) xs ++ cond (is_empty_kind k) (o ∷ ys) ys ++ cond (is_refused_kind k) (o ∷ zs) zs)
-    step xs ys zs moved (Enq v) = IsPermutation-cons o operations (xs ++ ys ++ zs) moved
-    step xs ys zs moved (Deq v) = IsPermutation-cons o operations (xs ++ ys ++ zs) moved
-    step xs ys zs moved Empty = IsPermutation-trans _ _ _ (IsPermutation-cons o _ _ moved)
+        → IsPermutation (o ∷ operations) (cond (moves_kind k) (o ∷ xs) xs ++ cond (is_empty_kind k) (o ∷ ys) ys ++ cond (is_failed_kind k) (o ∷ zs) zs)
+    step xs ys zs moved (Enqueue v) = IsPermutation-cons o operations (xs ++ ys ++ zs) moved
+    step xs ys zs moved (Dequeue v) = IsPermutation-cons o operations (xs ++ ys ++ zs) moved
+    step xs ys zs moved DequeueEmpty = IsPermutation-trans _ _ _ (IsPermutation-cons o _ _ moved)
         (IsPermutation-append_left zs _ _ (IsPermutation-sym _ _ (IsPermutation-middle xs o ys)))
-    step xs ys zs moved (Not v) = IsPermutation-trans _ _ _ (IsPermutation-cons o _ _ moved)
+    step xs ys zs moved (EnqueueFailed v) = IsPermutation-trans _ _ _ (IsPermutation-cons o _ _ moved)
         (IsPermutation-sym _ _ (IsPermutation-middle _ o zs))
 
 none_twice_by_calls : (operations : List Operation) → AllPairs (λ x y. x.call < y.call) operations → NoneTwice operations
@@ -396,8 +396,8 @@ module _ (operations : List Operation) (clear : IsClear (on operations)) where
         stands life is of = into_flat_map operations_of_life lives life o (stands_in_order operations lives clear order life is) (in_life life o of)
 
         by_kind : Contains operations o → (k : OpKind) → o.kind ≡ k → moves_kind k ≡ true → Contains (flat_map operations_of_life lives) o
-        by_kind in_o (Enq v) is moves = let life = life_of_enqueue operations o v (in_o, is) in stands life.0 life.1 (inl life.2)
-        by_kind in_o (Deq v) is moves = let life = life_of_dequeue operations o v clear (in_o, is) in stands life.0 life.1 (inr life.2)
+        by_kind in_o (Enqueue v) is moves = let life = life_of_enqueue operations o v (in_o, is) in stands life.0 life.1 (inl life.2)
+        by_kind in_o (Dequeue v) is moves = let life = life_of_dequeue operations o v clear (in_o, is) in stands life.0 life.1 (inr life.2)
         by_kind in_o _ is moves = cc
 
     from_lives : (o : Operation) → Contains (flat_map operations_of_life lives) o → Contains (filter moves_value operations) o
@@ -406,7 +406,7 @@ module _ (operations : List Operation) (clear : IsClear (on operations)) where
       where
         moved : (life : Life) → IsLife (on operations) life → IsOf life o → Contains (filter moves_value operations) o
         moved life is (inl enqueues) =
-            let did : Did operations o (Enq is.0) = subst (λ x. Did operations x (Enq is.0)) enqueues is.1 in
+            let did : Did operations o (Enqueue is.0) = subst (λ x. Did operations x (Enqueue is.0)) enqueues is.1 in
             passes_filter moves_value operations o (ap moves_kind did.1) did.0
         moved life is (inr dequeues) =
             let did = did_dequeue operations life o is dequeues in
@@ -414,7 +414,7 @@ module _ (operations : List Operation) (clear : IsClear (on operations)) where
 
     -- the operations, sorted into four kinds
     pub each_once : AllPairs (λ x y. x.call < y.call) operations → IsPermutation operations
-        (enqueues_of lives ++ dequeues_of lives ++ filter is_empty_answer operations ++ filter is_refused operations)
+        (enqueues_of lives ++ dequeues_of lives ++ filter is_empty_answer operations ++ filter is_failed operations)
     each_once rise =
         let here = filter moves_value operations in
         let by_value = flat_map operations_of_life lives in
@@ -422,9 +422,9 @@ module _ (operations : List Operation) (clear : IsClear (on operations)) where
         let lives_once = none_twice_from_places lives (λ i j x y at_x at_y same. one_place_of_life operations lives i j x y clear order at_x at_y same) in
         let moved = same_elements_permute here by_value (none_twice-filter moves_value operations (none_twice_by_calls operations rise))
         (none_twice_in_lives lives lives_once (is_life operations lives order)) into_lives from_lives in
-        IsPermutation-trans operations (here ++ filter is_empty_answer operations ++ filter is_refused operations)
-        (there ++ filter is_empty_answer operations ++ filter is_refused operations) (split_by_kind operations)
-        (IsPermutation-append_left (filter is_refused operations) (here ++ filter is_empty_answer operations) (there ++ filter is_empty_answer operations)
+        IsPermutation-trans operations (here ++ filter is_empty_answer operations ++ filter is_failed operations)
+        (there ++ filter is_empty_answer operations ++ filter is_failed operations) (split_by_kind operations)
+        (IsPermutation-append_left (filter is_failed operations) (here ++ filter is_empty_answer operations) (there ++ filter is_empty_answer operations)
         (IsPermutation-append_left (filter is_empty_answer operations) here there (IsPermutation-trans here by_value there moved (by_class lives))))
 
 -- ---- the operations that change nothing, sorted by gap and place, never fall
@@ -501,11 +501,11 @@ module _ (history : Contents) (clear : IsClear (course_of history)) where
 
   -- the empty dequeues and the failed enqueues
   module _ (first all : List Timed) (empties : Adds history (filter is_empty_answer (timed history.operations)) [] first)
-      (refused : Adds history (filter is_refused (timed history.operations)) first all) where
+      (failed : Adds history (filter is_failed (timed history.operations)) first all) where
     both : AllZip (IsNoopAt history) (noops_in history) all
     both = subst (AllZip (IsNoopAt history) (noops_in history))
-        (sym (refused.after ∙ ap (λ xs. xs ++ refused.added) empties.after)) (zip_joined (IsNoopAt history) _ _ _ _
-        empties.each_stands refused.each_stands)
+        (sym (failed.after ∙ ap (λ xs. xs ++ failed.added) empties.after)) (zip_joined (IsNoopAt history) _ _ _ _
+        empties.each_stands failed.each_stands)
 
     -- they are operations, in any order
     pub noops_within : (sorted : List Timed) → IsPermutation all sorted → All (λ timed. IsCalledInRange history.operations timed.place) sorted

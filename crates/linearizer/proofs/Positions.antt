@@ -1,14 +1,14 @@
 -- Consequences of the operations' positions. At a free gap each value that has entered has left, and so has each
 -- value before it.
 use Rattle.linearizer.proofs.Common.{[], AllZip, ap, AreLeastFreeGaps, arith, call_or_never, cases_lt, Contains}
-use Rattle.linearizer.proofs.Common.{contains_cons, Deq, dequeue_call, dequeue_gap, dequeue_of, dequeue_position}
-use Rattle.linearizer.proofs.Common.{dequeue_return, dequeued_if_called, Did, did_dequeue, drop, Empty, Enq}
+use Rattle.linearizer.proofs.Common.{contains_cons, Dequeue, dequeue_call, dequeue_gap, dequeue_of, dequeue_position}
+use Rattle.linearizer.proofs.Common.{dequeue_return, dequeued_if_called, Did, did_dequeue, drop, DequeueEmpty, Enqueue}
 use Rattle.linearizer.proofs.Common.{enqueue_call, enqueue_gap, enqueue_of, enqueue_position, enqueue_return}
 use Rattle.linearizer.proofs.Common.{entered_by, filter, find, fold, found_dequeue, greatest_leaves_from, inl, inr}
 use Rattle.linearizer.proofs.Common.{is_dequeue_of, is_empty_answer, IsClear, IsFreeGap, IsInWindow, IsLeastFreeGap}
 use Rattle.linearizer.proofs.Common.{IsLife, IsPositionFor, IsPositionOf, IsValueOrder, least_entered_by, leaves_from}
 use Rattle.linearizer.proofs.Common.{length, Life, List, map, MatchOption, max, min, NEVER, None, NoneDid}
-use Rattle.linearizer.proofs.Common.{noop_position, NoOrderViolation, Not, not_in_none, one_at, one_deeper}
+use Rattle.linearizer.proofs.Common.{noop_position, NoOrderViolation, EnqueueFailed, not_in_none, one_at, one_deeper}
 use Rattle.linearizer.proofs.Common.{one_life_of_dequeue, one_life_of_enqueue, Operation, OpKind, Option}
 use Rattle.linearizer.proofs.Common.{passes_filter, place_of, Position, refl, return_in_range, return_or_never}
 use Rattle.linearizer.proofs.Common.{same_call, same_dequeue, slice_get, slice_get_within, Some, subst, suc, sym, take}
@@ -158,7 +158,7 @@ left_before_entered operations lives c i j x y clear order free le at_x at_y ent
 
 -- the value at this place of the order is v
 abbrev pub HoldsValue : List Life → ℕ → ℕ → Type 0
-HoldsValue lives i v = (life : Life) × (slice_get lives i ≡ Some life) × ((enqueue_of life).kind ≡ Enq v)
+HoldsValue lives i v = (life : Life) × (slice_get lives i ≡ Some life) × ((enqueue_of life).kind ≡ Enqueue v)
 
 -- the value at this place of the order is dequeued
 abbrev pub IsDequeued : List Life → ℕ → Type 0
@@ -180,7 +180,7 @@ are_gaps lives = record {
 pub one_value : (lives : List Life) (i v w : ℕ) → HoldsValue lives i v → HoldsValue lives i w → v ≡ w
 one_value lives i v w x y =
     let one = one_at lives i x.0 y.0 x.1 y.1 in
-    let kinds : Enq v ≡ Enq w = sym x.2 ∙ ap (λ l. (enqueue_of l).kind) one ∙ y.2 in
+    let kinds : Enqueue v ≡ Enqueue w = sym x.2 ∙ ap (λ l. (enqueue_of l).kind) one ∙ y.2 in
     cc
 
 -- each value before a dequeued one is dequeued
@@ -227,22 +227,22 @@ module _ (operations : List Operation) (lives : List Life) (clear : IsClear (on 
   -- an operation at its position is an item of the run
   item_of : (o : Operation) → Contains operations o → (k : OpKind) → o.kind ≡ k → (position : Position) → IsPositionFor (on operations) lives o k position
       → IsItemOf lives k position
-  item_of o among (Enq v) is position stands =
+  item_of o among (Enqueue v) is position stands =
       (stands.0, slice_get_within lives stands.0 stands.1 stands.2, (stands.1, stands.2, ap (λ o. o.kind) stands.3 ∙ is), stands.4)
-  item_of o among (Deq v) is position stands =
+  item_of o among (Dequeue v) is position stands =
       let life = is_life_at operations lives stands.0 stands.1 order stands.2 in
-      let kinds : Deq life.0 ≡ Deq v = sym (did_dequeue operations stands.1 o life stands.3).1 ∙ is in
+      let kinds : Dequeue life.0 ≡ Dequeue v = sym (did_dequeue operations stands.1 o life stands.3).1 ∙ is in
       let values : life.0 ≡ v = cc in (
         stands.0,
         slice_get_within lives stands.0 stands.1 stands.2,
-        (stands.1, stands.2, life.1.1 ∙ ap (λ u. Enq u) values),
+        (stands.1, stands.2, life.1.1 ∙ ap (λ u. Enqueue u) values),
         (stands.1, o, stands.2, stands.3),
         stands.4,
       )
-  item_of o among Empty is position stands =
+  item_of o among DequeueEmpty is position stands =
       let early : stands.0 < NEVER = omega (arith, stands.1.in_window.1, return_in_range operations o clear.complete among) in
-      subst (IsItemOf lives Empty) (sym stands.2) (refl, gone_at_free_gap stands.0 stands.1.is_free early)
-  item_of o among (Not v) is position stands = ap (λ p. p.class) stands
+      subst (IsItemOf lives DequeueEmpty) (sym stands.2) (refl, gone_at_free_gap stands.0 stands.1.is_free early)
+  item_of o among (EnqueueFailed v) is position stands = ap (λ p. p.class) stands
 
   -- the operations and their positions are a run of items
   pub items_of : (os : List Operation) (positions : List Position) → ((o : Operation) → Contains os o → Contains operations o)
@@ -272,18 +272,18 @@ one_did kind (x ∷ operations) = elim (same_kind x.kind kind) [
 ]
 
 -- each dequeued value was enqueued
-enqueue_of_dequeued : (operations : List Operation) (o : Operation) (v : ℕ) → IsClear (on operations) → Did operations o (Deq v)
-    → (e : Operation) × Did operations e (Enq v)
-enqueue_of_dequeued operations o v clear did = elim (one_did (Enq v) operations) [
+enqueue_of_dequeued : (operations : List Operation) (o : Operation) (v : ℕ) → IsClear (on operations) → Did operations o (Dequeue v)
+    → (e : Operation) × Did operations e (Enqueue v)
+enqueue_of_dequeued operations o v clear did = elim (one_did (Enqueue v) operations) [
   | inl found ↦ found
-  | inr none ↦ elim (one_did (Not v) operations) [
-    | inl refused ↦ absurd (clear.no_fresh o (Some refused.0) (record { value = v; dequeues = did; enqueues = inl refused.1 }))
-    | inr none' ↦ absurd (clear.no_fresh o None (record { value = v; dequeues = did; not_accepted = λ enq did. none enq did.0 did.1; not_refused = none' }))
+  | inr none ↦ elim (one_did (EnqueueFailed v) operations) [
+    | inl failed ↦ absurd (clear.no_fresh o (Some failed.0) (record { value = v; dequeues = did; enqueues = inl failed.1 }))
+    | inr none' ↦ absurd (clear.no_fresh o None (record { value = v; dequeues = did; not_accepted = λ enq did. none enq did.0 did.1; not_failed = none' }))
   ]
 ]
 
 -- a successful enqueue begins a life
-pub life_of_enqueue : (operations : List Operation) (e : Operation) (v : ℕ) → Did operations e (Enq v)
+pub life_of_enqueue : (operations : List Operation) (e : Operation) (v : ℕ) → Did operations e (Enqueue v)
     → (life : Life) × IsLife (on operations) life × (enqueue_of life ≡ e)
 life_of_enqueue operations e v did = (
   record { enqueue = e; dequeue = find (is_dequeue_of v) operations },
@@ -292,15 +292,15 @@ life_of_enqueue operations e v did = (
 )
 
 -- a dequeue ends a life
-pub life_of_dequeue : (operations : List Operation) (o : Operation) (v : ℕ) → IsClear (on operations) → Did operations o (Deq v)
+pub life_of_dequeue : (operations : List Operation) (o : Operation) (v : ℕ) → IsClear (on operations) → Did operations o (Dequeue v)
     → (life : Life) × IsLife (on operations) life × (dequeue_of life ≡ Some o)
 life_of_dequeue operations o v clear did =
     let e = enqueue_of_dequeued operations o v clear did in
     let found = found_dequeue operations v (find (is_dequeue_of v) operations) refl in
     (record { enqueue = e.0; dequeue = find (is_dequeue_of v) operations }, (v, e.1, found), one e.0 e.1 (find (is_dequeue_of v) operations) found)
   where
-    one : (e : Operation) → Did operations e (Enq v) → (dequeue : Option Operation)
-        → MatchOption dequeue (NoneDid operations (Deq v)) (λ d. Did operations d (Deq v)) → dequeue ≡ Some o
+    one : (e : Operation) → Did operations e (Enqueue v) → (dequeue : Option Operation)
+        → MatchOption dequeue (NoneDid operations (Dequeue v)) (λ d. Did operations d (Dequeue v)) → dequeue ≡ Some o
     one e did_e None none = absurd (none o did.0 did.1)
     one e did_e (Some d) did_d = ap (λ x. Some x) (same_dequeue operations e d o v clear did_e did_d did)
 
@@ -308,36 +308,36 @@ module _ (operations : List Operation) (lives : List Life) (clear : IsClear (on 
   -- each operation has a position
   pub has_position : (gaps : List ℕ) → AreLeastFreeGaps (on operations) gaps → (o : Operation) → Contains operations o → (k : OpKind) → o.kind ≡ k
       → (position : Position) × IsPositionFor (on operations) lives o k position
-  has_position gaps free o among (Enq v) is =
+  has_position gaps free o among (Enqueue v) is =
       let life = life_of_enqueue operations o v (among, is) in
       let place = place_of lives life.0 (stands_in_order operations lives clear order life.0 life.1) in
       (enqueue_position lives place.0, (place.0, life.0, place.1, life.2, refl))
-  has_position gaps free o among (Deq v) is =
+  has_position gaps free o among (Dequeue v) is =
       let life = life_of_dequeue operations o v clear (among, is) in
       let place = place_of lives life.0 (stands_in_order operations lives clear order life.0 life.1) in
       (dequeue_position lives place.0, (place.0, life.0, place.1, life.2, refl))
-  has_position gaps free o among Empty is =
+  has_position gaps free o among DequeueEmpty is =
       let place = place_of (filter is_empty_answer operations) o (passes_filter is_empty_answer operations o (rw is refl) among) in
       let gap = beside_first (λ o c. IsLeastFreeGap (on operations) o c) (filter is_empty_answer operations) gaps place.0 o free place.1 in
       (noop_position o gap.0, (gap.0, gap.2, refl))
-  has_position gaps free o among (Not v) is = (noop_position o o.call, refl)
+  has_position gaps free o among (EnqueueFailed v) is = (noop_position o o.call, refl)
 
   -- an operation has only one position
   pub one_position : (o : Operation) (k : OpKind) (p q : Position) → IsPositionFor (on operations) lives o k p → IsPositionFor (on operations) lives o k q → p ≡ q
-  one_position o (Enq v) p q at_p at_q =
+  one_position o (Enqueue v) p q at_p at_q =
       let one = one_life_of_enqueue operations at_p.1 at_q.1 clear (is_life_at operations lives at_p.0 at_p.1 order at_p.2)
       (is_life_at operations lives at_q.0 at_q.1 order at_q.2) (at_p.3 ∙ sym at_q.3) in
       at_p.4 ∙ ap (enqueue_position lives) (one_place_of_life operations lives at_p.0 at_q.0 at_p.1 at_q.1 clear order at_p.2 at_q.2 one) ∙ sym at_q.4
-  one_position o (Deq v) p q at_p at_q =
+  one_position o (Dequeue v) p q at_p at_q =
       let one = one_life_of_dequeue operations at_p.1 at_q.1 o clear (is_life_at operations lives at_p.0 at_p.1 order at_p.2)
       (is_life_at operations lives at_q.0 at_q.1 order at_q.2) at_p.3 at_q.3 in
       at_p.4 ∙ ap (dequeue_position lives) (one_place_of_life operations lives at_p.0 at_q.0 at_p.1 at_q.1 clear order at_p.2 at_q.2 one) ∙ sym at_q.4
-  one_position o Empty p q at_p at_q =
+  one_position o DequeueEmpty p q at_p at_q =
       let first = at_p.1.least at_q.0 at_q.1.in_window at_q.1.is_free in
       let second = at_q.1.least at_p.0 at_p.1.in_window at_p.1.is_free in
       let gaps : at_p.0 ≡ at_q.0 = omega arith in
       at_p.2 ∙ ap (noop_position o) gaps ∙ sym at_q.2
-  one_position o (Not v) p q at_p at_q = at_p ∙ sym at_q
+  one_position o (EnqueueFailed v) p q at_p at_q = at_p ∙ sym at_q
 
 -- the constructor of options is injective
 pub some_injective : {x y : Operation} → ◌≡◌ {A = Option Operation} (Some x) (Some y) → x ≡ y
@@ -351,10 +351,10 @@ data Stands (lives : List Life) (o : Operation) (p : Position) : Type 0 where
 
 stands_as : (operations : List Operation) (lives : List Life) (o : Operation) (k : OpKind) (p : Position) → IsPositionFor (on operations) lives o k p
     → Stands lives o p
-stands_as operations lives o (Enq v) p at = enters at.0 at.1 at.2 at.3 at.4
-stands_as operations lives o (Deq v) p at = leaves at.0 at.1 at.2 at.3 at.4
-stands_as operations lives o Empty p at = noops at.0 at.2
-stands_as operations lives o (Not v) p at = noops o.call at
+stands_as operations lives o (Enqueue v) p at = enters at.0 at.1 at.2 at.3 at.4
+stands_as operations lives o (Dequeue v) p at = leaves at.0 at.1 at.2 at.3 at.4
+stands_as operations lives o DequeueEmpty p at = noops at.0 at.2
+stands_as operations lives o (EnqueueFailed v) p at = noops o.call at
 
 -- each position belongs to one operation
 module _ (operations : List Operation) (lives : List Life) (clear : IsClear (on operations)) (x y : Operation) (p : Position) (in_x : Contains operations x)

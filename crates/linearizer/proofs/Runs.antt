@@ -1,8 +1,8 @@
 -- Positions rise along the values, and operations in the order of their positions are a run that the queue accepts.
 use Rattle.linearizer.proofs.Common.{[], All, All-contains, All-head, All-tail, AllPairs, AllZip, ap, arith, cases_lt}
-use Rattle.linearizer.proofs.Common.{cases_order, Contains, contains_cons, Deq, earlier_dequeues, Empty, Enq, enqueues}
+use Rattle.linearizer.proofs.Common.{cases_order, Contains, contains_cons, Dequeue, earlier_dequeues, DequeueEmpty, Enqueue, enqueues}
 use Rattle.linearizer.proofs.Common.{eq-eqb, if◌then◌else◌, inl, inr, IsAccepted, length, length_push, List, nat_lt}
-use Rattle.linearizer.proofs.Common.{nat_tests, none-some, noop_answers, Not, OpKind, other_dequeues, Position, refl}
+use Rattle.linearizer.proofs.Common.{nat_tests, none-some, noop_answers, EnqueueFailed, OpKind, other_dequeues, Position, refl}
 use Rattle.linearizer.proofs.Common.{slice_get, Some, StandsBefore, subst, suc, sym, zero, ℕ, ◌++◌, ◌+◌, ◌<◌, ◌∙◌, ◌∷◌}
 use Rattle.linearizer.proofs.Common.{◌≡◌, ◌≤◌}
 use Rattle.history_merge.proofs.Lists.{with_one_more, AllPairs-tail}
@@ -72,11 +72,11 @@ module _ (n : ℕ) (enter leave : ℕ → ℕ) (gaps : AreGaps n enter leave) wh
 
 -- the kind and the position of an operation of the run; the i-th of n values is v, and some are dequeued
 abbrev pub IsItem : (n : ℕ) → (enter leave : ℕ → ℕ) → (ℕ → ℕ → Type 0) → (ℕ → Type 0) → OpKind → Position → Type 0
-IsItem n enter leave Holds Leaves (Enq v) position = (i : ℕ) × (i < n) × Holds i v × (position ≡ enqueue_at enter i)
-IsItem n enter leave Holds Leaves (Deq v) position = (i : ℕ) × (i < n) × Holds i v × Leaves i × (position ≡ dequeue_at enter leave i)
-IsItem n enter leave Holds Leaves Empty position = (position.class ≡ noop_answers)
+IsItem n enter leave Holds Leaves (Enqueue v) position = (i : ℕ) × (i < n) × Holds i v × (position ≡ enqueue_at enter i)
+IsItem n enter leave Holds Leaves (Dequeue v) position = (i : ℕ) × (i < n) × Holds i v × Leaves i × (position ≡ dequeue_at enter leave i)
+IsItem n enter leave Holds Leaves DequeueEmpty position = (position.class ≡ noop_answers)
     × ((i : ℕ) → i < n → enter i < position.gap → (leave i ≤ position.gap) × Leaves i)
-IsItem n enter leave Holds Leaves (Not v) position = position.class ≡ noop_answers
+IsItem n enter leave Holds Leaves (EnqueueFailed v) position = position.class ≡ noop_answers
 
 past_first : (p x : Position) (xs : List Position) → ¬ (x ≡ p) → Contains (x ∷ xs) p → Contains xs p
 past_first p x xs differs among = elim (contains_cons x xs p among) [ inl same ↦ absurd (differs same) | inr there ↦ there ]
@@ -133,7 +133,7 @@ module _ (n : ℕ) (enter leave : ℕ → ℕ) (gaps : AreGaps n enter leave) (H
     ]
 
     -- at an empty dequeue no value is in the queue
-    all_gone : IsItem n enter leave Holds Leaves Empty x → d ≡ e
+    all_gone : IsItem n enter leave Holds Leaves DequeueEmpty x → d ≡ e
     all_gone is = elim (cases_lt d e) [
       | inr all ↦ omega (arith, state.in_order)
       | inl below ↦
@@ -206,24 +206,24 @@ module _ (n : ℕ) (enter leave : ℕ → ℕ) (gaps : AreGaps n enter leave) (H
       → IsAccepted queue kinds
   is_accepted [] positions e d queue items rises state = refl
   is_accepted (k ∷ kinds) [] e d queue items rises state = absurd items
-  is_accepted (Enq v ∷ kinds) (x ∷ xs) e d queue items rises state =
+  is_accepted (Enqueue v ∷ kinds) (x ∷ xs) e d queue items rises state =
       let r = items.0.0 in
       let next = is_next (enqueue_at enter) e x xs state.enqueues_gone (first_rises x xs rises) r (enqueues_rise n enter leave gaps)
       (λ above. state.enqueues_left e (omega arith) (omega (arith, items.0.1))) items.0.1 items.0.3 in
       is_accepted kinds xs (suc e) d (queue ++ v ∷ []) items.1 (AllPairs-tail StandsBefore x xs rises)
       (after_enqueue e d queue x xs state (first_rises x xs rises) v (omega (arith, next, items.0.1))
       (subst (λ i. Holds i v) next items.0.2) (items.0.3 ∙ ap (enqueue_at enter) next))
-  is_accepted (Not v ∷ kinds) (x ∷ xs) e d queue items rises state =
+  is_accepted (EnqueueFailed v ∷ kinds) (x ∷ xs) e d queue items rises state =
       is_accepted kinds xs e d queue items.1 (AllPairs-tail StandsBefore x xs rises) (after_noop e d queue x xs state (first_rises x xs rises) items.0)
-  is_accepted (Empty ∷ kinds) (x ∷ xs) e d [] items rises state =
+  is_accepted (DequeueEmpty ∷ kinds) (x ∷ xs) e d [] items rises state =
       is_accepted kinds xs e d [] items.1 (AllPairs-tail StandsBefore x xs rises) (after_noop e d [] x xs state (first_rises x xs rises) items.0.0)
-  is_accepted (Empty ∷ kinds) (x ∷ xs) e d (front ∷ rest) items rises state =
+  is_accepted (DequeueEmpty ∷ kinds) (x ∷ xs) e d (front ∷ rest) items rises state =
       absurd (omega (arith, all_gone e d (front ∷ rest) x xs state (first_rises x xs rises) items.0, state.long))
-  is_accepted (Deq v ∷ kinds) (x ∷ xs) e d [] items rises state =
+  is_accepted (Dequeue v ∷ kinds) (x ∷ xs) e d [] items rises state =
       let next = is_next_dequeue e d [] x xs state (first_rises x xs rises) items.0.0 items.0.1 items.0.3 items.0.4 in
       let early = not_too_early e d [] x xs state (first_rises x xs rises) (omega (arith, next, items.0.1)) (items.0.4 ∙ ap (dequeue_at enter leave) next) in
       absurd (omega (arith, state.long))
-  is_accepted (Deq v ∷ kinds) (x ∷ xs) e d (front ∷ rest) items rises state =
+  is_accepted (Dequeue v ∷ kinds) (x ∷ xs) e d (front ∷ rest) items rises state =
       let next = is_next_dequeue e d (front ∷ rest) x xs state (first_rises x xs rises) items.0.0 items.0.1 items.0.3 items.0.4 in
       let is : x ≡ dequeue_at enter leave d = items.0.4 ∙ ap (dequeue_at enter leave) next in
       let early = not_too_early e d (front ∷ rest) x xs state (first_rises x xs rises) (omega (arith, next, items.0.1)) is in

@@ -1,7 +1,7 @@
 -- The tickets of the lives of a clear history.
 use Rattle.linearizer.proofs.Common.{All-contains, AllPairs, ap, AreComplete, arith, call_before_return, timeline_of}
-use Rattle.linearizer.proofs.Common.{call_by_return, call_or_never, Contains, Deq, dequeue_call, dequeue_of, clear_on}
-use Rattle.linearizer.proofs.Common.{dequeue_return, Did, did_dequeue, Enq, enqueue_call, enqueue_of, enqueue_return}
+use Rattle.linearizer.proofs.Common.{call_by_return, call_or_never, Contains, Dequeue, dequeue_call, dequeue_of, clear_on}
+use Rattle.linearizer.proofs.Common.{dequeue_return, Did, did_dequeue, Enqueue, enqueue_call, enqueue_of, enqueue_return}
 use Rattle.linearizer.proofs.Common.{enqueues, entered_by, inl, inr, IsClear, IsLife, IsTimed, IsValueOrder, course_of}
 use Rattle.linearizer.proofs.Common.{leaves_from, Life, life_from, List, lives_of, MatchOption, NEVER, no_enqueue}
 use Rattle.linearizer.proofs.Common.{None, NoneDid, on, one_life_of_dequeue, one_life_of_enqueue, Operation, OpKind}
@@ -47,8 +47,8 @@ times_of_life operations life clear (v, did, dequeues) =
       leaves_by_never = omega arith;
     }
   where
-    dequeue_times : (enqueue : Operation) (dequeue : Option Operation) → Did operations enqueue (Enq v)
-        → MatchOption dequeue (NoneDid operations (Deq v)) (λ d. Did operations d (Deq v)) → HasDequeueTimes enqueue dequeue
+    dequeue_times : (enqueue : Operation) (dequeue : Option Operation) → Did operations enqueue (Enqueue v)
+        → MatchOption dequeue (NoneDid operations (Dequeue v)) (λ d. Did operations d (Dequeue v)) → HasDequeueTimes enqueue dequeue
     dequeue_times enqueue None did none =
         let range = return_in_range operations enqueue clear.complete did.0 in
         record { takes_time = inr (refl, refl); after_enqueue = omega (arith, call_by_return operations enqueue clear.complete did.0); in_range = omega arith }
@@ -56,10 +56,10 @@ times_of_life operations life clear (v, did, dequeues) =
         let range = return_in_range operations d clear.complete did_d.0 in
         let differ : d.ret ≢ enqueue.call = λ same.
         let one = returns_at_call operations d enqueue clear.complete did_d.0 did.0 same in
-        let clash : Deq v ≡ Enq v = sym did_d.1 ∙ ap (λ o. o.kind) one ∙ did.1 in cc in
+        let clash : Dequeue v ≡ Enqueue v = sym did_d.1 ∙ ap (λ o. o.kind) one ∙ did.1 in cc in
         let fresh : ¬ (d.ret < enqueue.call) = λ early. clear.no_fresh d (Some enqueue) (record { value = v; dequeues = did_d; enqueues = inr (did, early) }) in
         record {
-          takes_time = inl (call_before_return operations d clear.complete did_d.0 (no_enqueue d (Deq v) did_d.1 refl));
+          takes_time = inl (call_before_return operations d clear.complete did_d.0 (no_enqueue d (Dequeue v) did_d.1 refl));
           after_enqueue = omega arith;
           in_range = omega arith;
         }
@@ -96,7 +96,7 @@ dequeue_has : (of : Operation → ℕ) (or_never : Option Operation → ℕ) (op
     → HasTicket of operations life (or_never (dequeue_of life)) ⊎ (or_never (dequeue_of life) ≡ NEVER)
 dequeue_has of or_never operations life never some is = go (dequeue_of life) refl is.2
   where
-    go : (dequeue : Option Operation) → dequeue_of life ≡ dequeue → MatchOption dequeue (NoneDid operations (Deq is.0)) (λ d. Did operations d (Deq is.0))
+    go : (dequeue : Option Operation) → dequeue_of life ≡ dequeue → MatchOption dequeue (NoneDid operations (Dequeue is.0)) (λ d. Did operations d (Dequeue is.0))
         → HasTicket of operations life (or_never dequeue) ⊎ (or_never dequeue ≡ NEVER)
     go None same none = inr never
     go (Some d) same did = inl (record { o = d; among = did.0; is_of = inr same; is = some d })
@@ -138,7 +138,7 @@ leaves_at_call operations life clear is =
 pub not_both_kinds : (operations : List Operation) (x y : Life) (o : Operation) → IsLife (on operations) x → IsLife (on operations) y → enqueue_of x ≡ o
     → dequeue_of y ≡ Some o → ⊥
 not_both_kinds operations x y o is_x is_y enqueues dequeues =
-    let clash : Enq is_x.0 ≡ Deq is_y.0 = sym is_x.1.1 ∙ ap (λ o. o.kind) enqueues ∙ (did_dequeue operations y o is_y dequeues).1 in
+    let clash : Enqueue is_x.0 ≡ Dequeue is_y.0 = sym is_x.1.1 ∙ ap (λ o. o.kind) enqueues ∙ (did_dequeue operations y o is_y dequeues).1 in
     cc
 
 -- lives that share an operation are equal
@@ -189,11 +189,11 @@ returns_at_no_leave operations x y clear is_x is_y same = elim (leaves_at_call o
         let did = did_dequeue operations x d is_x dequeues in
         let returns : d.ret ≡ at_y.o.call = sym (ap return_or_never dequeues) ∙ same ∙ sym at_y.is in
         let one = returns_at_call operations d at_y.o clear.complete did.0 at_y.among returns in
-        let less = call_before_return operations d clear.complete did.0 (no_enqueue d (Deq is_x.0) did.1 refl) in
+        let less = call_before_return operations d clear.complete did.0 (no_enqueue d (Dequeue is_x.0) did.1 refl) in
         absurd (omega (arith, ap (λ (o : Operation). o.call) one, returns, less))
 
 enqueues_itself : (operations : List Operation) (o : Operation) (k : OpKind) (life : Life) → life_from operations o k ≡ Some life → enqueue_call life ≡ o.call
-enqueues_itself operations o (Enq v) life same = sym (ap (λ l. (enqueue_of l).call) (same_Some _ life same))
+enqueues_itself operations o (Enqueue v) life same = sym (ap (λ l. (enqueue_of l).call) (same_Some _ life same))
 enqueues_itself operations o _ life same = cc
 
 -- the lives are in the order of their enqueues' calls

@@ -2,17 +2,17 @@
 use Rattle.linearizer.proofs.Elements.{earlier_at, value_order_along}
 use Rattle.linearizer.proofs.OneOrder.{chosen_order_is_legal, each_once, operations_rise, position_along}
 use Rattle.linearizer.proofs.OneOrder.{sorted_is_chosen}
-use Rattle.value_match.proofs.ToldPlaces.{course_back, earlier, earlier_later, earlier_none, timeline_earlier}
+use Rattle.value_match.proofs.HistoryPlaces.{course_back, earlier, earlier_later, earlier_none, timeline_earlier}
 use Rattle.history_merge.specs.Initial.{enqueues_from, initial_enqueues}
 use Rattle.history_merge.proofs.Timelines.{all_timeline_orders}
 use Rattle.std.proofs.lemmas.List.Elements.{All-append}
 use Rattle.std.proofs.lemmas.List.Sorted.{IsPermutation-append}
 use Rattle.linearizer.proofs.Common.{All, All-head, All-permutation, All-tail, AllPairs, AllZip, ap, append_assoc, ap₂}
 use Rattle.linearizer.proofs.Common.{AreChosenAndLegal, ArePlacesOf, Bool, clear_course, clear_on, cons_option}
-use Rattle.linearizer.proofs.Common.{Contents, course, course_of, dequeues_of, Enq, enqueues_of, false, filter}
-use Rattle.linearizer.proofs.Common.{filter_map, HoldsNoops, is_empty_answer, is_empty_kind, is_refused}
-use Rattle.linearizer.proofs.Common.{is_refused_kind, IsChosenOrder, IsClear, IsMerge, IsPermutation}
-use Rattle.linearizer.proofs.Common.{IsPermutation-map, IsPermutation-trans, IsPlaced, IsPositionOf, IsToldAt}
+use Rattle.linearizer.proofs.Common.{Contents, course, course_of, dequeues_of, Enqueue, enqueues_of, false, filter}
+use Rattle.linearizer.proofs.Common.{filter_map, HoldsNoops, is_empty_answer, is_empty_kind, is_failed}
+use Rattle.linearizer.proofs.Common.{is_failed_kind, IsChosenOrder, IsClear, IsMerge, IsPermutation}
+use Rattle.linearizer.proofs.Common.{IsPermutation-map, IsPermutation-trans, IsPlaced, IsPositionOf, IsAtHistoryPlace}
 use Rattle.linearizer.proofs.Common.{later_by, length, Life, List, map, map-append, MAX_INITIAL, no_order_of, None}
 use Rattle.linearizer.proofs.Common.{noops_in, NoOrderViolation, on, Operation, OpKind, Option, ORIGIN, Placed}
 use Rattle.linearizer.proofs.Common.{placed_in, Position, position_of, refl, same_lives, Some, StandsBefore, subst}
@@ -71,7 +71,7 @@ module _ (history : Contents) (lives : List Life) where
   places_told (p ∷ placed) each =
       one p.place (All-head (IsPlaced history lives) p placed each).0 (places_told placed (All-tail (IsPlaced history lives) p placed each))
     where
-      one : (place : Option ℕ) → IsToldAt history.operations place p.operation
+      one : (place : Option ℕ) → IsAtHistoryPlace history.operations place p.operation
           → ArePlacesOf history.operations (filter_map (λ p. p.place) placed) (filter_map (earlier ORIGIN) (placed_in placed))
           → ArePlacesOf history.operations (cons_option place (filter_map (λ p. p.place) placed))
           (cons_option (earlier ORIGIN p.operation) (filter_map (earlier ORIGIN) (placed_in placed)))
@@ -94,10 +94,10 @@ chosen_and_legal history noops places clear none noop (values, held, sorted) =
     let in_order = value_order_along (course_of history) (on all) lives (sym (same_lives initial operations)) held.in_order in
     let of_values = enqueues_of lives ++ dequeues_of lives in
     let order = placed_in sorted.sorted in
-    let of_noops : filter is_empty_answer all ++ filter is_refused all ≡ noops_in history =
+    let of_noops : filter is_empty_answer all ++ filter is_failed all ≡ noops_in history =
     ap₂ (λ xs ys. xs ++ ys) (filter_behind is_empty_kind (λ v. refl) (ORIGIN - length initial) initial (timed operations))
-    (filter_behind is_refused_kind (λ v. refl) (ORIGIN - length initial) initial (timed operations)) in
-    let once = subst (IsPermutation all) (append_assoc of_values (filter is_empty_answer all) (filter is_refused all) ∙ ap (λ xs. of_values ++ xs) of_noops)
+    (filter_behind is_failed_kind (λ v. refl) (ORIGIN - length initial) initial (timed operations)) in
+    let once = subst (IsPermutation all) (append_assoc of_values (filter is_empty_answer all) (filter is_failed all) ∙ ap (λ xs. of_values ++ xs) of_noops)
     (each_once all clear_all lives in_order (operations_rise all clear_all.complete)) in
     let moved = IsPermutation-trans all (of_values ++ noops_in history) order once
     (IsPermutation-trans (of_values ++ noops_in history) (placed_in (values ++ noops)) order
@@ -120,7 +120,7 @@ chosen_and_legal history noops places clear none noop (values, held, sorted) =
       legal.2,
     )
   where
-    filter_behind : (kinds : OpKind → Bool) → ((v : ℕ) → kinds (Enq v) ≡ false) → (time : ℕ) (values : List ℕ) (later : List Operation)
+    filter_behind : (kinds : OpKind → Bool) → ((v : ℕ) → kinds (Enqueue v) ≡ false) → (time : ℕ) (values : List ℕ) (later : List Operation)
         → filter (λ o. kinds o.kind) (enqueues_from time values ++ later) ≡ filter (λ o. kinds o.kind) later
     filter_behind kinds none time [] later = refl
     filter_behind kinds none time (v ∷ values) later = rw (none v) (filter_behind kinds none (time + 1) values later)

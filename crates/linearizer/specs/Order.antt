@@ -3,7 +3,7 @@ use Rattle.std.specs.Prelude.{◌≡◌, ℕ, ◌<◌, ◌⊎◌, List, AllPairs
 use Rattle.std.specs.List.{AllZip}
 use Rattle.history_merge.specs.declared.operation.Operation.{Operation}
 use Rattle.history_merge.specs.declared.operation.OpKind.{OpKind}
-use Rattle.history_merge.specs.declared.operation.OpKind.TheVariants.{Enq, Deq, Empty, Not}
+use Rattle.history_merge.specs.declared.operation.OpKind.TheVariants.{Enqueue, Dequeue, DequeueEmpty, EnqueueFailed}
 use Rattle.history_merge.specs.Legal.{IsLegalOrder, ArePlacesOf}
 use Rattle.value_match.specs.declared.life.Life.{Life}
 use Rattle.value_match.specs.Lives.{Course, IsLeastFreeGap, course, dequeue_of, enqueue_of, timed}
@@ -46,12 +46,12 @@ noop_position o gap = record { gap = gap; class = noop_answers; rank = o.call }
 
 -- the position of an operation of this kind
 abbrev pub IsPositionFor : Course → List Life → Operation → OpKind → Position → Type 0
-IsPositionFor c lives o (Enq v) position =
+IsPositionFor c lives o (Enqueue v) position =
     (i : ℕ) × (life : Life) × (slice_get lives i ≡ Some life) × (enqueue_of life ≡ o) × (position ≡ enqueue_position lives i)
-IsPositionFor c lives o (Deq v) position =
+IsPositionFor c lives o (Dequeue v) position =
     (i : ℕ) × (life : Life) × (slice_get lives i ≡ Some life) × (dequeue_of life ≡ Some o) × (position ≡ dequeue_position lives i)
-IsPositionFor c lives o Empty position = (gap : ℕ) × IsLeastFreeGap c o gap × (position ≡ noop_position o gap)
-IsPositionFor c lives o (Not v) position = position ≡ noop_position o o.call
+IsPositionFor c lives o DequeueEmpty position = (gap : ℕ) × IsLeastFreeGap c o gap × (position ≡ noop_position o gap)
+IsPositionFor c lives o (EnqueueFailed v) position = position ≡ noop_position o o.call
 
 -- the position of an operation
 abbrev pub IsPositionOf : Course → List Life → Operation → Position → Type 0

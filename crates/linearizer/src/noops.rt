@@ -3,7 +3,7 @@ ghost use Rattle.std.specs.Prelude.{◌≡◌, ◌+◌, ◌↔◌, ◌<◌, ◌�
 ghost use Rattle.std.specs.Prelude.{Some, false, filter, length, map, slice_get};
 ghost use Rattle.history_merge.specs.declared.packed.TheConstants.{PACKED_LIMIT};
 ghost use Rattle.event_records.specs.declared.limits.TheConstants.{ORIGIN};
-ghost use Rattle.value_match.specs.Lives.{AreLeastFreeGaps, course_of, is_empty_answer, is_refused, timed};
+ghost use Rattle.value_match.specs.Lives.{AreLeastFreeGaps, course_of, is_empty_answer, is_failed, timed};
 ghost use Rattle.value_match.specs.Inner.Accepted.{operation_at};
 ghost use Rattle.value_match.specs.Times.{time_of};
 ghost use Rattle.value_match.specs.Violations.{IsClear};
@@ -110,10 +110,10 @@ pub(crate) fn noops_of<'a>(
     ensures { IfOk result (λ noops. HoldsNoops matching.now noops) }
 {
     let operations = matching.operations();
-    let count = gaps.len().saturating_add(matching.refused().len());
+    let count = gaps.len().saturating_add(matching.failed().len());
     let mut noops = Vec::with_capacity(alloc, count)?;
     add_empties(&mut noops, matching, gaps)?;
-    add_refused(&mut noops, matching)?;
+    add_failed(&mut noops, matching)?;
     noops.sort_unstable_by_key(|noop| noop.word());
     Ok(Noops::new(operations, noops))
 }
@@ -143,15 +143,15 @@ fn add_empties(
 
 /// Adds the failed enqueues, each at the gap of its call.
 #[tactic(auto, using(crate::proofs::Elements::adds_none))]
-fn add_refused(noops: &mut Vec<PackedTimed>, matching: &Matching) -> Result<(), AllocError>
+fn add_failed(noops: &mut Vec<PackedTimed>, matching: &Matching) -> Result<(), AllocError>
     requires { IsClear (course_of matching.now) }
     ensures { OnOk result
-        (Adds matching.now (filter is_refused (timed matching.now.operations)) noops.old.items noops.new.items) }
+        (Adds matching.now (filter is_failed (timed matching.now.operations)) noops.old.items noops.new.items) }
 {
     let operations = matching.operations();
-    let refused = matching.refused();
-    for at in 0..refused.len() {
-        let id = refused.get(at);
+    let failed = matching.failed();
+    for at in 0..failed.len() {
+        let id = failed.get(at);
         noops.push(PackedTimed::new(Timed {
             time: call_at(&operations, id),
             place: id.place(),

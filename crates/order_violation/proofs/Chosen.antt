@@ -9,31 +9,31 @@ use Rattle.order_violation.proofs.Common.{None, NonePasses, Option, Overtakes, r
 use Rattle.order_violation.proofs.Common.{StaysAtLeast, subst, sym, take, true, ℕ, ◌++◌, ◌+◌, ◌<◌, ◌∷◌, ◌≡◌, ◌≤◌}
 use Rattle.order_violation.specs.Pairs.{IsChosenPair, IsFirstOvertaker, pair_of}
 use Rattle.history_merge.specs.declared.operation.Operation.{Operation}
-use Rattle.history_merge.specs.declared.operation.OpKind.TheVariants.{Deq}
+use Rattle.history_merge.specs.declared.operation.OpKind.TheVariants.{Dequeue}
 use Rattle.history_merge.specs.Operations.{Did, NoneDid}
 use Rattle.history_merge.specs.Complete.{AreApart, AreComplete}
 use Rattle.history_merge.specs.Initial.{Contents}
 use Rattle.history_merge.specs.Inner.Timeline.{timeline}
 use Rattle.history_merge.proofs.Distinct.{call_by_return, contains_at, pairs_at, return_in_range}
 use Rattle.value_match.specs.declared.life.TheConstants.{NEVER}
-use Rattle.value_match.specs.Inner.Told.{behind}
+use Rattle.value_match.specs.Inner.HistoryPlaces.{behind}
 use Rattle.value_match.specs.Outcome.{HoldsValues}
 use Rattle.value_match.specs.Inner.Courses.{on}
 use Rattle.value_match.specs.Lives.{course_of, timed}
 use Rattle.value_match.specs.Violations.{IsClear, IsOrderViolation, NoOrderViolation}
 use Rattle.std.proofs.lemmas.Option.{MatchOption-at_some}
 use Rattle.value_match.proofs.Lives.{dequeued_if_called}
-use Rattle.value_match.proofs.ToldPlaces.{clear_life, clear_on, life_value, maybe_on, value_lives}
+use Rattle.value_match.proofs.HistoryPlaces.{clear_life, clear_on, life_value, maybe_on, value_lives}
 use Rattle.value_match.proofs.Lists.{one_more}
 
 -- the dequeue of a life is a dequeue of its value
 pub did_dequeue : (operations : List Operation) (life : Life) (d : Operation) (is : IsLife (on operations) life) → dequeue_of life ≡ Some d
-    → Did operations d (Deq is.0)
-did_dequeue operations life d is dequeues = MatchOption-at_some (NoneDid operations (Deq is.0)) (λ d. Did operations d (Deq is.0)) d dequeues is.2
+    → Did operations d (Dequeue is.0)
+did_dequeue operations life d is dequeues = MatchOption-at_some (NoneDid operations (Dequeue is.0)) (λ d. Did operations d (Dequeue is.0)) d dequeues is.2
 
 -- no dequeue is called after `NEVER`, and one that returns before it is called before it
 called_by : (operations : List Operation) (v : ℕ) (dequeue : Option Operation) → AreComplete operations
-    → MatchOption dequeue (NoneDid operations (Deq v)) (λ d. Did operations d (Deq v))
+    → MatchOption dequeue (NoneDid operations (Dequeue v)) (λ d. Did operations d (Dequeue v))
     → (call_or_never dequeue ≤ NEVER) × (return_or_never dequeue < NEVER → call_or_never dequeue < NEVER)
 called_by operations v None complete none = (omega arith, λ before. before)
 called_by operations v (Some d) complete did =

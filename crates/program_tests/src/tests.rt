@@ -1,8 +1,8 @@
 //! Tests of the program that need more than files. All other cases are in extras/answers.
+mod args;
 mod inputs;
 mod recorded;
 mod stressing;
-mod words;
 mod writing;
 
 use commands::{NamedQueue, Terminals, run_command};
@@ -19,12 +19,12 @@ fn run<'a, R: AllocGlobal + Threads + Wait + Sync, S: TextSource + Drop>(
     source: S,
     shelf: &[NamedQueue<'a>],
 ) -> Result<(Vec<u8>, u8), AllocError> {
-    let words: Vec<&str> = line.split_whitespace().collect(rt.alloc())?;
+    let args: Vec<&str> = line.split_whitespace().collect(rt.alloc())?;
     let mut writer = Watched::new(Vec::new(rt.alloc()));
     let mut errors = Watched::new(io::sink());
     let status = run_command(
         rt,
-        &words,
+        &args,
         source,
         &mut writer,
         &mut errors,

@@ -10,7 +10,7 @@ use Rattle.event_records.specs.declared.event.What.{What}
 use Rattle.event_records.specs.declared.event.What.TheVariants.{CallEnq, RetEnq, RetNot, CallDeq, RetDeq, RetEmpty}
 use Rattle.history_merge.specs.declared.operation.Operation.{Operation}
 use Rattle.history_merge.specs.declared.operation.OpKind.{OpKind}
-use Rattle.history_merge.specs.declared.operation.OpKind.TheVariants.{Enq, Deq, Empty, Not}
+use Rattle.history_merge.specs.declared.operation.OpKind.TheVariants.{Enqueue, Dequeue, DequeueEmpty, EnqueueFailed}
 use Rattle.history_merge.specs.Merge.{IsMerged}
 use Rattle.history_merge.specs.Operations.{Precedes, operations_of, operation_of, kind_of}
 use Rattle.recorder_core.specs.Setting.{Setting}
@@ -32,10 +32,10 @@ found_among {X} p (y ∷ xs) x is = by_head (p y) refl (found_among p xs x) is
     by_head false passes more e = let m = more e in (one_deeper y xs x m.0, m.1)
 
 whats_of : (call answer : What) (kind : OpKind) → kind_of call answer ≡ Some kind → (call ≡ call_of_kind kind) × (answer ≡ return_of_kind kind)
-whats_of (CallEnq v) RetEnq kind is = let same : Enq v ≡ kind = same_Some (Enq v) kind is in (ap call_of_kind same, ap return_of_kind same)
-whats_of (CallEnq v) RetNot kind is = let same : Not v ≡ kind = same_Some (Not v) kind is in (ap call_of_kind same, ap return_of_kind same)
-whats_of CallDeq (RetDeq v) kind is = let same : Deq v ≡ kind = same_Some (Deq v) kind is in (ap call_of_kind same, ap return_of_kind same)
-whats_of CallDeq RetEmpty kind is = let same : Empty ≡ kind = same_Some Empty kind is in (ap call_of_kind same, ap return_of_kind same)
+whats_of (CallEnq v) RetEnq kind is = let same : Enqueue v ≡ kind = same_Some (Enqueue v) kind is in (ap call_of_kind same, ap return_of_kind same)
+whats_of (CallEnq v) RetNot kind is = let same : EnqueueFailed v ≡ kind = same_Some (EnqueueFailed v) kind is in (ap call_of_kind same, ap return_of_kind same)
+whats_of CallDeq (RetDeq v) kind is = let same : Dequeue v ≡ kind = same_Some (Dequeue v) kind is in (ap call_of_kind same, ap return_of_kind same)
+whats_of CallDeq RetEmpty kind is = let same : DequeueEmpty ≡ kind = same_Some DequeueEmpty kind is in (ap call_of_kind same, ap return_of_kind same)
 whats_of _ _ kind is = cc
 
 -- the call and the return of an operation

@@ -6,7 +6,7 @@ use Rattle.event_records.specs.declared.event.What.{What}
 use Rattle.event_records.specs.declared.event.What.TheVariants.{CallEnq, RetEnq, RetNot, CallDeq, RetDeq, RetEmpty}
 use Rattle.history_merge.specs.declared.operation.Operation.{Operation}
 use Rattle.history_merge.specs.declared.operation.OpKind.{OpKind}
-use Rattle.history_merge.specs.declared.operation.OpKind.TheVariants.{Enq, Deq, Empty, Not}
+use Rattle.history_merge.specs.declared.operation.OpKind.TheVariants.{Enqueue, Dequeue, DequeueEmpty, EnqueueFailed}
 use Rattle.recorder_core.specs.declared.step.Step.{Step}
 use Rattle.recorder_core.specs.declared.step.Step.TheVariants.{Drain}
 use Rattle.recorder_core.specs.Setting.{Setting}
@@ -55,17 +55,17 @@ pub record StandsBefore (setting : Setting) (schedule : List Attempt) (first sec
 
 -- the call of an operation of this kind
 abbrev pub call_of_kind : OpKind → What
-call_of_kind (Enq v) = CallEnq v
-call_of_kind (Not v) = CallEnq v
-call_of_kind (Deq v) = CallDeq
-call_of_kind Empty = CallDeq
+call_of_kind (Enqueue v) = CallEnq v
+call_of_kind (EnqueueFailed v) = CallEnq v
+call_of_kind (Dequeue v) = CallDeq
+call_of_kind DequeueEmpty = CallDeq
 
 -- the return of an operation of this kind
 abbrev pub return_of_kind : OpKind → What
-return_of_kind (Enq v) = RetEnq
-return_of_kind (Not v) = RetNot
-return_of_kind (Deq v) = RetDeq v
-return_of_kind Empty = RetEmpty
+return_of_kind (Enqueue v) = RetEnq
+return_of_kind (EnqueueFailed v) = RetNot
+return_of_kind (Dequeue v) = RetDeq v
+return_of_kind DequeueEmpty = RetEmpty
 
 -- the event of an operation's call
 abbrev pub operation_call : Operation → Event

@@ -11,14 +11,14 @@ use Rattle.event_records.specs.Turns.{Alternates}
 use Rattle.history_merge.specs.Operations.{operation_of}
 use Rattle.history_merge.specs.declared.operation.Operation.{Operation}
 use Rattle.history_merge.specs.declared.operation.OpKind.{OpKind}
-use Rattle.history_merge.specs.declared.operation.OpKind.TheVariants.{Enq, Deq, Empty, Not}
+use Rattle.history_merge.specs.declared.operation.OpKind.TheVariants.{Enqueue, Dequeue, DequeueEmpty, EnqueueFailed}
 use Rattle.event_records.specs.declared.limits.TheConstants.{MAX_THREADS}
 use Rattle.recorder_core.specs.declared.step.Step.{Step}
 use Rattle.recorder_core.specs.declared.step.Step.TheVariants.{Effect, Say}
 use Rattle.event_records.specs.declared.kind.Answer.{Answer}
 use Rattle.event_records.specs.declared.kind.Answer.TheVariants.{Taken, Got}
 use Rattle.recorder_core.specs.declared.pending.Request.{Request}
-use Rattle.recorder_core.specs.declared.pending.Request.TheVariants.{Enqueue, Dequeue}
+use Rattle.recorder_core.specs.declared.pending.Request.TheVariants as ask_for
 use Rattle.recorder_core.specs.Setting.{Setting}
 use Rattle.recorder_core.specs.Schedule.{Attempt, accepted, request, effect_answer, with_last, answers, events}
 use Rattle.recorder_core.specs.Laws.{collected_lists, IsDone}
@@ -96,10 +96,10 @@ effects_order setting steps = filter_map (operation_at setting steps) (effected 
 
 -- the kind of an operation with this request and this answer
 abbrev pub kind_told : Request → Answer → OpKind
-kind_told (Enqueue value) Taken = Enq value
-kind_told (Enqueue value) _ = Not value
-kind_told Dequeue (Got value) = Deq value
-kind_told Dequeue _ = Empty
+kind_told (ask_for.Enqueue value) Taken = Enqueue value
+kind_told (ask_for.Enqueue value) _ = EnqueueFailed value
+kind_told ask_for.Dequeue (Got value) = Dequeue value
+kind_told ask_for.Dequeue _ = DequeueEmpty
 
 -- the kinds of the effects, in their order
 abbrev pub effect_kinds : Setting → List Step → List OpKind

@@ -6,7 +6,7 @@ ghost use Rattle.value_match.specs.Outcome.{IsChosenViolation};
 ghost use Rattle.verdicts.specs.Verdicts.{IsVerdict};
 
 use crate::histories::{by, history_of};
-use history_merge::OpKind::{Deq, Empty, Enq};
+use history_merge::OpKind::{Dequeue, DequeueEmpty, Enqueue};
 use history_merge::{History, Operation};
 use std::alloc::{AllocError, Global};
 use std::process::Abort;
@@ -96,11 +96,11 @@ fn is_shrunk(
 /// An empty dequeue during which first one value and then another was in the queue.
 #[test]
 fn of_a_covered_empty_answer(rt: HostRuntime) -> Result<(), Fail> {
-    let (enq_7, empty) = (by(0, Enq(7), 0, 1), by(1, Empty, 2, 9));
+    let (enq_7, empty) = (by(0, Enqueue(7), 0, 1), by(1, DequeueEmpty, 2, 9));
     let (enq_9, deq_7, deq_9) = (
-        by(0, Enq(9), 3, 4),
-        by(0, Deq(7), 5, 6),
-        by(0, Deq(9), 10, 11),
+        by(0, Enqueue(9), 3, 4),
+        by(0, Dequeue(7), 5, 6),
+        by(0, Dequeue(9), 10, 11),
     );
     let case = Case {
         operations: &[enq_7, empty, enq_9, deq_7, deq_9],
@@ -115,12 +115,12 @@ fn of_a_covered_empty_answer(rt: HostRuntime) -> Result<(), Fail> {
 #[test]
 fn of_values_out_of_order(rt: HostRuntime) -> Result<(), Fail> {
     let (enq_7, enq_9, deq_9) = (
-        by(0, Enq(7), 0, 1),
-        by(0, Enq(9), 2, 3),
-        by(0, Deq(9), 4, 5),
+        by(0, Enqueue(7), 0, 1),
+        by(0, Enqueue(9), 2, 3),
+        by(0, Dequeue(9), 4, 5),
     );
     let case = Case {
-        operations: &[enq_7, enq_9, deq_9, by(0, Enq(5), 6, 7)],
+        operations: &[enq_7, enq_9, deq_9, by(0, Enqueue(5), 6, 7)],
         kind: Some(ViolationKind::VOrd),
         lines: &[enq_7, enq_9, deq_9],
         kept: &[enq_7, enq_9, deq_9],
@@ -131,8 +131,12 @@ fn of_values_out_of_order(rt: HostRuntime) -> Result<(), Fail> {
 /// An empty dequeue with one gap at which the queue may have been empty.
 #[test]
 fn of_a_legal_order(rt: HostRuntime) -> Result<(), Fail> {
-    let (enq_7, empty, deq_7) = (by(0, Enq(7), 0, 1), by(1, Empty, 2, 9), by(2, Deq(7), 4, 5));
-    let (enq_9, deq_9) = (by(0, Enq(9), 3, 6), by(0, Deq(9), 10, 11));
+    let (enq_7, empty, deq_7) = (
+        by(0, Enqueue(7), 0, 1),
+        by(1, DequeueEmpty, 2, 9),
+        by(2, Dequeue(7), 4, 5),
+    );
+    let (enq_9, deq_9) = (by(0, Enqueue(9), 3, 6), by(0, Dequeue(9), 10, 11));
     let case = Case {
         operations: &[enq_7, empty, enq_9, deq_7, deq_9],
         kind: None,

@@ -19,10 +19,10 @@ pub(crate) fn by(thread: u8, kind: OpKind, call: u64, ret: u64) -> Operation {
 /// Returns the call and the return of an operation.
 fn events_of(operation: &Operation) -> [Event; 2] {
     let (called, answered) = match operation.kind {
-        OpKind::Enq(value) => (What::CallEnq(value), What::RetEnq),
-        OpKind::Not(value) => (What::CallEnq(value), What::RetNot),
-        OpKind::Deq(value) => (What::CallDeq, What::RetDeq(value)),
-        OpKind::Empty => (What::CallDeq, What::RetEmpty),
+        OpKind::Enqueue(value) => (What::CallEnq(value), What::RetEnq),
+        OpKind::EnqueueFailed(value) => (What::CallEnq(value), What::RetNot),
+        OpKind::Dequeue(value) => (What::CallDeq, What::RetDeq(value)),
+        OpKind::DequeueEmpty => (What::CallDeq, What::RetEmpty),
     };
     let at = |ticket: u64, what: What| Event {
         ticket,

@@ -22,10 +22,10 @@ effect_of q Empty = effect.Empty
 
 -- what a note says of its operation
 abbrev pub kind_noted : Effect → OpKind
-kind_noted (effect.Enq v) = kind.Enq v
-kind_noted (effect.Deq v) = kind.Deq v
-kind_noted effect.Empty = kind.Empty
-kind_noted (effect.Not v) = kind.Not v
+kind_noted (effect.Enq v) = kind.Enqueue v
+kind_noted (effect.Deq v) = kind.Dequeue v
+kind_noted effect.Empty = kind.DequeueEmpty
+kind_noted (effect.Not v) = kind.EnqueueFailed v
 
 -- what the notes say of their operations, in their order
 abbrev pub kinds_noted : List Note → List OpKind

@@ -31,7 +31,7 @@ impl OfRun for Brand {
 
 // What lies under the lock: the values, which are what the log leaves of those at first.
 #[derive(Drop)]
-pub(crate) struct Desk<J: OfRun> {
+pub(crate) struct LockedLog<J: OfRun> {
     list: Fifo,
     log: Log,
     of: PhantomData<J>,
@@ -39,7 +39,7 @@ pub(crate) struct Desk<J: OfRun> {
     ghost legal: { accept_all J.initial (kinds_noted log.notes) ≡ Some list },
 }
 
-impl<J: OfRun> Desk<J> {
+impl<J: OfRun> LockedLog<J> {
     ghost use Rattle.std.specs.Prelude.{◌≡◌, Contains};
     ghost use Rattle.queue_interface.specs.Answers.{AnswersInKind};
     ghost use Rattle.stress_run.specs.Noted.{NotesOne};
@@ -89,7 +89,7 @@ impl<J: OfRun> Desk<J> {
 #[derive(Drop)]
 pub(crate) struct Session<'r, J: OfRun, R: Wait> {
     rt: &'r R,
-    desk: Mutex<Desk<J>>,
+    locked_log: Mutex<LockedLog<J>>,
 }
 
 impl<'r, J: OfRun, R: Wait> Session<'r, J, R> {
@@ -104,7 +104,7 @@ impl<'r, J: OfRun, R: Wait> Session<'r, J, R> {
     {
         Session {
             rt,
-            desk: Mutex::new(Desk {
+            locked_log: Mutex::new(LockedLog {
                 list,
                 log,
                 of: PhantomData,
@@ -117,12 +117,12 @@ impl<'r, J: OfRun, R: Wait> Session<'r, J, R> {
         ensures key { result.key ≡ J.word }
         ensures accepted { IsAccepted J.initial (kinds_noted result.notes) }
     {
-        let Session { rt: _, desk } = self;
-        let Desk {
+        let Session { rt: _, locked_log } = self;
+        let LockedLog {
             list: _,
             log,
             of: _,
-        } = desk.into_inner();
+        } = locked_log.into_inner();
         log
     }
 }
@@ -138,10 +138,10 @@ impl<'r, J: OfRun + Send + Sync, R: Wait> Asked for Session<'r, J, R> {
     ghost of_word = { λ _ tickets. tickets.key ≡ J.word };
 
     fn enqueue(&self, ask: AskEnq, pass: &mut Pass, tickets: &Tickets) -> AnsweredEnq {
-        self.desk.lock(self.rt).enqueue(ask, pass, tickets)
+        self.locked_log.lock(self.rt).enqueue(ask, pass, tickets)
     }
 
     fn dequeue(&self, ask: AskDeq, pass: &mut Pass, tickets: &Tickets) -> AnsweredDeq {
-        self.desk.lock(self.rt).dequeue(ask, pass, tickets)
+        self.locked_log.lock(self.rt).dequeue(ask, pass, tickets)
     }
 }

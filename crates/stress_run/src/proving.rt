@@ -172,7 +172,12 @@ fn run_lock_free<R: Threads + Sync>(
 {
     let operations = plan.operations();
     let room = initial.len() + operations as usize;
-    let (tickets, pass) = Tickets::with_shared_nodes(alloc, 2 * operations, initial.as_slice(), room)?;
+    let (tickets, pass) = Tickets::with_shared_nodes(
+        alloc,
+        2 * operations,
+        initial.as_slice(),
+        room,
+    )?;
     let (lists, pass) = run_on(rt, alloc, &LockFree, &tickets, pass, plan, sizes)?;
     let total = tickets.close_with_shared_nodes(pass);
     Ok(Recorded {

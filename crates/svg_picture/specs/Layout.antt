@@ -7,8 +7,8 @@ use Rattle.drawing.specs.Pending.{is_pending}
 use Rattle.drawing.specs.Scene.{SceneView, scene_on, row_number, lanes_before}
 use Rattle.drawing.specs.declared.scene.Row.{Row}
 use Rattle.drawing.specs.declared.scene.Row.TheVariants.{Ticket}
-use Rattle.svg_picture.specs.declared.sheet.Measures.{Measures}
-use Rattle.svg_picture.specs.declared.sheet.Sheet.{Sheet}
+use Rattle.svg_picture.specs.declared.canvas.Measures.{Measures}
+use Rattle.svg_picture.specs.declared.canvas.Canvas.{Canvas}
 
 -- a scene, and its measures
 pub record Page : Type 0 where
@@ -16,8 +16,8 @@ pub record Page : Type 0 where
   pub scene : SceneView
 
 -- the page of a value of the program
-abbrev pub page_on : Sheet → Page
-page_on sheet = record { measures = sheet.measures; scene = scene_on sheet.scene.now }
+abbrev pub page_on : Canvas → Page
+page_on canvas = record { measures = canvas.measures; scene = scene_on canvas.scene.now }
 
 -- ---- from left to right
 

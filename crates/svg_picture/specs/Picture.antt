@@ -23,7 +23,7 @@ use Rattle.drawing.specs.Signs.{signs_of, meaning}
 use Rattle.drawing.specs.declared.signs.Sign.{Sign}
 use Rattle.drawing.specs.declared.signs.Sign.TheVariants.{First, InOrder, OfOperations, OfValues, Present, Absent, Away, Pending}
 use Rattle.svg_picture.specs.declared.bars.Bar.{Bar}
-use Rattle.svg_picture.specs.declared.sheet.Measures.{Measures}
+use Rattle.svg_picture.specs.declared.canvas.Measures.{Measures}
 use Rattle.svg_picture.specs.Markup.{Content, Nothing, Words, Element, Svg, Title, Desc, Defs, Pattern, Group, each, group, document}
 use Rattle.svg_picture.specs.Layout.{Page, shown, left, number_x, bar_width, thread_x, band_x, width, legend_y, top, row_y, call_y, ret_y, bar_end, bottom, height}
 use Rattle.svg_picture.specs.Layout.{line_count, parts, longest}
@@ -34,10 +34,10 @@ use Rattle.svg_picture.specs.Elements.{text_at, rect, open_rect, stroke, lines_a
 
 -- the rounding of a bar's corners: dequeues are round
 abbrev pub corner : OpKind → ℕ
-corner (kind.Enq v) = 0
-corner (kind.Deq v) = 9
-corner (kind.Not v) = 0
-corner kind.Empty = 9
+corner (kind.Enqueue v) = 0
+corner (kind.Dequeue v) = 9
+corner (kind.EnqueueFailed v) = 0
+corner kind.DequeueEmpty = 9
 
 -- the class of a band by its form; nothing without a band
 abbrev pub form_class : BandHead → List ℕ
@@ -175,7 +175,7 @@ initial_words v place = concat (codes "init " ∷ decimal v ∷ codes ", in the 
 unfoldable pub placed_initial : Page → ℕ → Row → ℕ → Content
 placed_initial page y r v =
     let place = place_in (shown_by page.scene.claimed) r in
-    let b : Bar = record { x = left page.measures; y = y + 2; height = 16; base = y + 14; kind = kind.Enq v; place = place; is_pending = false } in
+    let b : Bar = record { x = left page.measures; y = y + 2; height = 16; base = y + 14; kind = kind.Enqueue v; place = place; is_pending = false } in
     marked_bar page.measures (mark page.scene.claimed false place) (initial_words v place) (initial_label v) b
 
 -- ---- rows

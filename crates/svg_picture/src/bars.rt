@@ -5,12 +5,13 @@ ghost use Rattle.svg_picture.specs.Layout.{page_on};
 ghost use Rattle.svg_picture.specs.Picture.{mark, number_words, tickets_words, bar_words, pill};
 ghost use Rattle.svg_picture.specs.Picture.{bar_number, bar_frame, marked_bar, bar, bars};
 
+use crate::canvas::{Canvas, Measures};
 use crate::elements::{push_open_rect, push_rect, push_text_at};
 use crate::layout::{bar_end, bar_width, number_x, row_y, thread_x};
 use crate::markup::Attribute::Words;
 use crate::markup::{push_element, push_end, push_number, push_start};
-use crate::sheet::{Measures, Sheet};
 use crate::words::corner;
+use claims::Claimed;
 use drawing::{
     Added, MOST_DRAWN, Row, digits, is_away, is_pending, kind_word, label_of, place_in, place_of,
     push_told, shown_by,
@@ -18,7 +19,6 @@ use drawing::{
 use history_merge::{OpKind, Operation};
 use itoa::Buffer;
 use std::alloc::{AllocError, Global};
-use claims::Claimed;
 
 /// Returns the class that marks an operation or an initial value.
 pub(crate) fn mark(claimed: &Claimed, away: bool, place: Option<usize>) -> &'static [u8]
@@ -164,38 +164,38 @@ pub(crate) fn push_marked_bar(
 
 /// Adds the bar of an operation.
 #[tactic(auto, unfolding(crate::specs::Picture::bar))]
-fn push_bar(text: &mut Vec<u8>, sheet: &Sheet<'_>, operation: Operation) -> Added
-    ensures { OnOk result (text.new.items ≡ text.old.items ++ text_of (bar (page_on sheet.now) operation)) }
+fn push_bar(text: &mut Vec<u8>, canvas: &Canvas<'_>, operation: Operation) -> Added
+    ensures { OnOk result (text.new.items ≡ text.old.items ++ text_of (bar (page_on canvas.now) operation)) }
 {
-    let claimed = sheet.scene.claimed;
+    let claimed = canvas.scene.claimed;
     let row = Row::Ticket(operation.call);
     let place = place_of(claimed, row);
     let class = mark(claimed, is_away(claimed, operation), place);
-    let pending = is_pending(sheet.scene.added_from, operation);
-    let title = bar_words(sheet.alloc, pending, operation, place)?;
-    let label = label_of(sheet.alloc, operation.kind)?;
-    let top = row_y(sheet, row);
+    let pending = is_pending(canvas.scene.added_from, operation);
+    let title = bar_words(canvas.alloc, pending, operation, place)?;
+    let label = label_of(canvas.alloc, operation.kind)?;
+    let top = row_y(canvas, row);
     let bar = Bar {
-        x: thread_x(sheet, operation.thread),
+        x: thread_x(canvas, operation.thread),
         y: top + 3,
-        height: bar_end(sheet, operation).saturating_sub(top + 3),
+        height: bar_end(canvas, operation).saturating_sub(top + 3),
         base: top + 24,
         kind: operation.kind,
         place: place_in(shown_by(claimed), row),
         is_pending: pending,
     };
-    let (m, title, label) = (sheet.measures, title.as_slice(), label.as_slice());
+    let (m, title, label) = (canvas.measures, title.as_slice(), label.as_slice());
     push_marked_bar(text, m, class, title, label, bar)
 }
 
 /// Adds the bars of the operations.
 #[tactic(auto, using(crate::proofs::Each::steps), unfolding(crate::specs::Picture::bars))]
-pub(crate) fn push_bars(text: &mut Vec<u8>, sheet: &Sheet<'_>) -> Added
-    ensures { OnOk result (text.new.items ≡ text.old.items ++ text_of (bars (page_on sheet.now))) }
+pub(crate) fn push_bars(text: &mut Vec<u8>, canvas: &Canvas<'_>) -> Added
+    ensures { OnOk result (text.new.items ≡ text.old.items ++ text_of (bars (page_on canvas.now))) }
 {
-    let operations = sheet.scene.operations.as_slice();
+    let operations = canvas.scene.operations.as_slice();
     for operation in operations {
-        push_bar(text, sheet, *operation)?;
+        push_bar(text, canvas, *operation)?;
     }
     Ok(())
 }

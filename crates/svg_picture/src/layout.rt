@@ -3,7 +3,7 @@ ghost use Rattle.std.specs.Prelude.{◌≡◌, ◌≤◌, ◌^◌};
 ghost use Rattle.svg_picture.specs.Layout.{page_on, shown, band_x, left, number_x, bar_width, lane_x, thread_x, width};
 ghost use Rattle.svg_picture.specs.Layout.{legend_y, top, row_y, bottom, bar_end, height};
 
-use crate::sheet::{Measures, Sheet};
+use crate::canvas::{Canvas, Measures};
 use drawing::{Row, is_pending, lanes_before, row_number};
 use history_merge::Operation;
 
@@ -63,12 +63,12 @@ fn lane_x(m: Measures, before: usize) -> u128
 
 /// Returns the left edge of a thread's lane.
 #[tactic(auto, unfolding(crate::specs::Layout::thread_x))]
-pub(crate) fn thread_x(sheet: &Sheet<'_>, thread: u8) -> u128
-    ensures value { result ≡ thread_x (page_on sheet.now) thread }
+pub(crate) fn thread_x(canvas: &Canvas<'_>, thread: u8) -> u128
+    ensures value { result ≡ thread_x (page_on canvas.now) thread }
     ensures small { result ≤ 2 ^ 90 }
 {
-    let before = lanes_before(sheet.scene.threads.as_slice(), thread);
-    lane_x(sheet.measures, before)
+    let before = lanes_before(canvas.scene.threads.as_slice(), thread);
+    lane_x(canvas.measures, before)
 }
 
 /// Returns the width of the picture.
@@ -101,12 +101,12 @@ pub(crate) fn top(m: Measures) -> u128
 }
 
 /// Returns the upper edge of a row.
-pub(crate) fn row_y(sheet: &Sheet<'_>, row: Row) -> u128
-    ensures value { result ≡ row_y (page_on sheet.now) row }
+pub(crate) fn row_y(canvas: &Canvas<'_>, row: Row) -> u128
+    ensures value { result ≡ row_y (page_on canvas.now) row }
     ensures small { result ≤ 2 ^ 91 }
 {
-    let number = row_number(sheet.scene.rows.as_slice(), row);
-    top(sheet.measures) + 20 * number as u128
+    let number = row_number(canvas.scene.rows.as_slice(), row);
+    top(canvas.measures) + 20 * number as u128
 }
 
 /// Returns the lower edge of the last row.
@@ -122,14 +122,14 @@ pub(crate) fn bottom(m: Measures) -> u128
 
 /// Returns the lower edge of the bar of an operation: in the row of its return, or at the end of its lane if it is
 /// pending.
-pub(crate) fn bar_end(sheet: &Sheet<'_>, operation: Operation) -> u128
-    ensures value { result ≡ bar_end (page_on sheet.now) operation }
+pub(crate) fn bar_end(canvas: &Canvas<'_>, operation: Operation) -> u128
+    ensures value { result ≡ bar_end (page_on canvas.now) operation }
     ensures small { result ≤ 2 ^ 92 }
 {
-    if is_pending(sheet.scene.added_from, operation) {
-        bottom(sheet.measures)
+    if is_pending(canvas.scene.added_from, operation) {
+        bottom(canvas.measures)
     } else {
-        row_y(sheet, Row::Ticket(operation.ret)) + 17
+        row_y(canvas, Row::Ticket(operation.ret)) + 17
     }
 }
 

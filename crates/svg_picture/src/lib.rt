@@ -1,8 +1,9 @@
 //! Pictures of histories and claims about them, as SVG documents.
 #![tactic(auto)]
 
+mod bands;
 mod bars;
-mod beside;
+mod canvas;
 mod elements;
 mod html;
 mod lanes;
@@ -13,7 +14,6 @@ mod markup;
 mod page;
 mod picture;
 mod rows;
-mod sheet;
 mod signs;
 mod words;
 

@@ -8,8 +8,9 @@ ghost use Rattle.svg_picture.specs.Layout.{page_on};
 ghost use Rattle.svg_picture.specs.Picture.{about, heading, inside, measures_of};
 ghost use Rattle.svg_picture.specs.Picture.{page_content, page_of, svg_picture, view_box};
 
+use crate::bands::push_bands;
 use crate::bars::push_bars;
-use crate::beside::push_bands;
+use crate::canvas::{Canvas, Measures};
 use crate::elements::{push_lines_at, push_samples, push_text_at};
 use crate::lanes::{push_background, push_threads};
 use crate::layout::{height, legend_y, width};
@@ -17,15 +18,14 @@ use crate::lines::{line_count, longest_head, longest_line};
 use crate::markup::Attribute::{Number, Words};
 use crate::markup::{push_element, push_end, push_number, push_start};
 use crate::rows::{push_names, push_rows};
-use crate::sheet::{Measures, Sheet};
 use crate::signs::push_signs;
 use crate::words::{READING, push_style};
+use claims::Claimed;
 use drawing::{
     Added, MOST_DRAWN, Scene, count_of_lines, digits, headline, label_width, push_caption,
     signs_of, ticket_width,
 };
 use std::alloc::{AllocError, Global};
-use claims::Claimed;
 
 fn caption_of(alloc: Global, scene: &Scene<'_>) -> Result<Vec<u8>, AllocError>
     requires { count_of_lines scene.now.claimed.now ≤ MOST_DRAWN }
@@ -38,16 +38,16 @@ fn caption_of(alloc: Global, scene: &Scene<'_>) -> Result<Vec<u8>, AllocError>
 
 /// Adds the words above the lanes: the headline, the caption, and the legend.
 #[tactic(auto, unfolding(crate::specs::Picture::heading))]
-fn push_heading(text: &mut Vec<u8>, sheet: &Sheet<'_>) -> Added
-    ensures { OnOk result (text.new.items ≡ text.old.items ++ text_of (heading (page_on sheet.now))) }
+fn push_heading(text: &mut Vec<u8>, canvas: &Canvas<'_>) -> Added
+    ensures { OnOk result (text.new.items ≡ text.old.items ++ text_of (heading (page_on canvas.now))) }
 {
-    let y = legend_y(sheet.measures);
-    push_text_at(text, 9, b"head", 6, 26, headline(sheet.scene.claimed))?;
-    let caption = caption_of(sheet.alloc, sheet.scene)?;
+    let y = legend_y(canvas.measures);
+    push_text_at(text, 9, b"head", 6, 26, headline(canvas.scene.claimed))?;
+    let caption = caption_of(canvas.alloc, canvas.scene)?;
     push_lines_at(text, 8, b"say", 46, caption.as_slice())?;
     push_samples(text, y)?;
     push_lines_at(text, 7, b"dim", y + 35, READING)?;
-    push_signs(text, sheet)
+    push_signs(text, canvas)
 }
 
 /// Adds the words for those who can't see the picture, and its style.
@@ -64,17 +64,17 @@ fn push_about(alloc: Global, text: &mut Vec<u8>, scene: &Scene<'_>) -> Added
 
 /// Adds all elements between the tags of the picture.
 #[tactic(auto, using(crate::proofs::Chains::pieces), unfolding(crate::specs::Picture::inside))]
-fn push_inside(text: &mut Vec<u8>, sheet: &Sheet<'_>) -> Added
-    ensures { OnOk result (text.new.items ≡ text.old.items ++ text_of (inside (page_on sheet.now))) }
+fn push_inside(text: &mut Vec<u8>, canvas: &Canvas<'_>) -> Added
+    ensures { OnOk result (text.new.items ≡ text.old.items ++ text_of (inside (page_on canvas.now))) }
 {
-    push_about(sheet.alloc, text, sheet.scene)?;
-    push_background(text, sheet.measures)?;
-    push_heading(text, sheet)?;
-    push_names(text, sheet.measures)?;
-    push_threads(text, sheet)?;
-    push_bands(text, sheet)?;
-    push_bars(text, sheet)?;
-    push_rows(text, sheet)
+    push_about(canvas.alloc, text, canvas.scene)?;
+    push_background(text, canvas.measures)?;
+    push_heading(text, canvas)?;
+    push_names(text, canvas.measures)?;
+    push_threads(text, canvas)?;
+    push_bands(text, canvas)?;
+    push_bars(text, canvas)?;
+    push_rows(text, canvas)
 }
 
 #[tactic(auto, unfolding(crate::specs::Picture::view_box))]
@@ -89,11 +89,11 @@ fn view_box(alloc: Global, m: Measures) -> Result<Vec<u8>, AllocError>
 }
 
 #[tactic(auto, unfolding(crate::specs::Picture::page_content))]
-fn push_page(text: &mut Vec<u8>, sheet: &Sheet<'_>) -> Added
-    ensures { OnOk result (text.new.items ≡ text.old.items ++ text_of (page_content (page_on sheet.now))) }
+fn push_page(text: &mut Vec<u8>, canvas: &Canvas<'_>) -> Added
+    ensures { OnOk result (text.new.items ≡ text.old.items ++ text_of (page_content (page_on canvas.now))) }
 {
-    let m = sheet.measures;
-    let view_box = view_box(sheet.alloc, m)?;
+    let m = canvas.measures;
+    let view_box = view_box(canvas.alloc, m)?;
     push_start(
         text,
         b"svg",
@@ -106,7 +106,7 @@ fn push_page(text: &mut Vec<u8>, sheet: &Sheet<'_>) -> Added
             Words(b"role", b"img"),
         ],
     )?;
-    push_inside(text, sheet)?;
+    push_inside(text, canvas)?;
     push_end(text, b"svg")
 }
 
@@ -138,12 +138,12 @@ pub(crate) fn push_picture(alloc: Global, text: &mut Vec<u8>, scene: &Scene<'_>)
     ensures { OnOk result (text.new.items ≡ text.old.items ++ text_of (page_content (page_of (scene_on scene.now)))) }
 {
     let measures = measures_of(alloc, scene)?;
-    let sheet = Sheet {
+    let canvas = Canvas {
         alloc,
         measures,
         scene,
     };
-    push_page(text, &sheet)
+    push_page(text, &canvas)
 }
 
 /// Draws a scene as an SVG 1.1 document.

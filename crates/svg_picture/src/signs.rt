@@ -5,9 +5,9 @@ ghost use Rattle.svg_picture.specs.Layout.{page_on};
 ghost use Rattle.svg_picture.specs.Picture.{sign_at, signs};
 
 use crate::bars::push_pill;
+use crate::canvas::{Canvas, Measures};
 use crate::elements::{push_open_rect, push_rect, push_text_at};
 use crate::layout::legend_y;
-use crate::sheet::{Measures, Sheet};
 use drawing::{Added, Sign, meaning, signs_of};
 
 /// Adds sign i with its meaning.
@@ -30,12 +30,12 @@ fn push_sign_at(text: &mut Vec<u8>, m: Measures, i: usize, sign: Sign) -> Added
 
 /// Adds the signs of the picture with their meanings, one to a line.
 #[tactic(auto, using(crate::proofs::Each::steps), unfolding(crate::specs::Picture::signs))]
-pub(crate) fn push_signs(text: &mut Vec<u8>, sheet: &Sheet<'_>) -> Added
-    ensures { OnOk result (text.new.items ≡ text.old.items ++ text_of (signs (page_on sheet.now))) }
+pub(crate) fn push_signs(text: &mut Vec<u8>, canvas: &Canvas<'_>) -> Added
+    ensures { OnOk result (text.new.items ≡ text.old.items ++ text_of (signs (page_on canvas.now))) }
 {
-    let signs = signs_of(sheet.alloc, sheet.scene)?;
+    let signs = signs_of(canvas.alloc, canvas.scene)?;
     for (i, sign) in signs.as_slice().iter().enumerate() {
-        push_sign_at(text, sheet.measures, i, *sign)?;
+        push_sign_at(text, canvas.measures, i, *sign)?;
     }
     Ok(())
 }

@@ -13,8 +13,8 @@ pub(crate) fn corner(kind: OpKind) -> u128
     ensures { result ≡ corner kind }
 {
     match kind {
-        OpKind::Enq(_) | OpKind::Not(_) => 0,
-        OpKind::Deq(_) | OpKind::Empty => 9,
+        OpKind::Enqueue(_) | OpKind::EnqueueFailed(_) => 0,
+        OpKind::Dequeue(_) | OpKind::DequeueEmpty => 9,
     }
 }
 

@@ -1,3 +1,4 @@
+mod args;
 mod changed;
 mod errors;
 mod outcomes;
@@ -7,4 +8,3 @@ mod said_on_errors;
 mod sinks;
 mod texts;
 mod verdict_texts;
-mod words;

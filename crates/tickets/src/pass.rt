@@ -2,7 +2,7 @@
 ghost use Rattle.std.specs.Prelude.{◌≡◌, ◌-◌, ◌≤◌, []};
 ghost use Rattle.tickets.specs.Inner.Account.{holding};
 
-use crate::account::{Draws, Holding, Looks, Together};
+use crate::account::{Draws, Holding, Loads, Together};
 use crate::drawn::Drawn;
 use crate::source::Tickets;
 use atomic_table::{Seat, Split};
@@ -135,7 +135,7 @@ impl Pass {
         let (other_seat, other_share, other_left) = other.into_parts();
         let table = &tickets.table.shared;
         table.join_seat::<Together>(&mut seat, other_seat);
-        table.load::<Looks>(&mut seat, 0);
+        table.load::<Loads>(&mut seat, 0);
         Pass {
             seat,
             share: share + other_share,

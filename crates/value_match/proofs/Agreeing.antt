@@ -1,8 +1,8 @@
 -- Courses in which the same values come in and the same operations happen have the same lives, violations and free
 -- gaps.
-use Rattle.value_match.proofs.Common.{[], Course, CoversFrom, Deq, dequeue_call, dequeue_of, Did, Empty, Enq}
+use Rattle.value_match.proofs.Common.{[], Course, CoversFrom, Dequeue, dequeue_call, dequeue_of, Did, DequeueEmpty, Enqueue}
 use Rattle.value_match.proofs.Common.{fresh, inl, inr, IsFreshViolation, IsLife, Life, List, MatchOption}
-use Rattle.value_match.proofs.Common.{NoFreshViolation, None, NoneDid, Not, Operation, OpKind, Option, repeat, Some, ℕ}
+use Rattle.value_match.proofs.Common.{NoFreshViolation, None, NoneDid, EnqueueFailed, Operation, OpKind, Option, repeat, Some, ℕ}
 use Rattle.value_match.proofs.Common.{◌∷◌, ◌≢◌}
 use Rattle.std.specs.Prelude.{Bool, false, MatchBool, nat_lt, true}
 use Rattle.value_match.specs.Choice.{IsChosenCoverFrom, IsChosenFullViolation}
@@ -14,7 +14,7 @@ use Rattle.value_match.specs.Violations.{NoOrderViolation, NoRepeatViolation, or
 -- each fact about the first course that definitions use holds of the second
 pub record Carries (c d : Course) : Type 0 where
   pub enters : (enq : Operation) (v : ℕ) → c.Enters enq v → d.Enters enq v
-  pub did : (o : Operation) (kind : OpKind) → ((v : ℕ) → kind ≢ Enq v) → Did c.operations o kind → Did d.operations o kind
+  pub did : (o : Operation) (kind : OpKind) → ((v : ℕ) → kind ≢ Enqueue v) → Did c.operations o kind → Did d.operations o kind
 
 -- each course carries over to the other
 pub record Agree (c d : Course) : Type 0 where
@@ -24,7 +24,7 @@ pub record Agree (c d : Course) : Type 0 where
 pub agree_back : (c d : Course) → Agree c d → Agree d c
 agree_back c d agree = record { there = agree.back; back = agree.there }
 
-none_did : (c d : Course) (kind : OpKind) → Carries d c → ((v : ℕ) → kind ≢ Enq v) → NoneDid c.operations kind → NoneDid d.operations kind
+none_did : (c d : Course) (kind : OpKind) → Carries d c → ((v : ℕ) → kind ≢ Enqueue v) → NoneDid c.operations kind → NoneDid d.operations kind
 none_did c d kind back other none o among is = let did = back.did o kind other (among, is) in none o did.0 did.1
 
 or_else : (A B C : Type 0) (test : Bool) → (B → C) → MatchBool test A B → MatchBool test A C
@@ -32,10 +32,10 @@ or_else A B C true f a = a
 or_else A B C false f b = f b
 
 module _ (c d : Course) (agree : Agree c d) where
-  ended : (v : ℕ) (dequeue : Option Operation) → MatchOption dequeue (NoneDid c.operations (Deq v)) (λ o. Did c.operations o (Deq v))
-      → MatchOption dequeue (NoneDid d.operations (Deq v)) (λ o. Did d.operations o (Deq v))
-  ended v None none = none_did c d (Deq v) agree.back (λ w is. cc) none
-  ended v (Some o) did = agree.there.did o (Deq v) (λ w is. cc) did
+  ended : (v : ℕ) (dequeue : Option Operation) → MatchOption dequeue (NoneDid c.operations (Dequeue v)) (λ o. Did c.operations o (Dequeue v))
+      → MatchOption dequeue (NoneDid d.operations (Dequeue v)) (λ o. Did d.operations o (Dequeue v))
+  ended v None none = none_did c d (Dequeue v) agree.back (λ w is. cc) none
+  ended v (Some o) did = agree.there.did o (Dequeue v) (λ w is. cc) did
 
   pub life_of : (life : Life) → IsLife c life → IsLife d life
   life_of life is = (is.0, agree.there.enters _ is.0 is.1, ended is.0 (dequeue_of life) is.2)
@@ -43,15 +43,15 @@ module _ (c d : Course) (agree : Agree c d) where
   pub fresh_of : (deq : Operation) (enq : Option Operation) → IsFreshViolation c deq enq → IsFreshViolation d deq enq
   fresh_of deq None is = record {
     value = is.value;
-    dequeues = agree.there.did deq (Deq is.value) (λ w same. cc) is.dequeues;
+    dequeues = agree.there.did deq (Dequeue is.value) (λ w same. cc) is.dequeues;
     not_accepted = λ enq enters. is.not_accepted enq (agree.back.enters enq is.value enters);
-    not_refused = none_did c d (Not is.value) agree.back (λ w same. cc) is.not_refused;
+    not_failed = none_did c d (EnqueueFailed is.value) agree.back (λ w same. cc) is.not_failed;
   }
   fresh_of deq (Some enq) is = record {
     value = is.value;
-    dequeues = agree.there.did deq (Deq is.value) (λ w same. cc) is.dequeues;
+    dequeues = agree.there.did deq (Dequeue is.value) (λ w same. cc) is.dequeues;
     enqueues = elim is.enqueues [
-      | inl refused ↦ inl (agree.there.did enq (Not is.value) (λ w same. cc) refused)
+      | inl failed ↦ inl (agree.there.did enq (EnqueueFailed is.value) (λ w same. cc) failed)
       | inr late ↦ inr (agree.there.enters enq is.value late.0, late.1)
     ];
   }
@@ -60,8 +60,8 @@ module _ (c d : Course) (agree : Agree c d) where
   repeat_of enq first second is = record {
     value = is.value;
     enqueues = agree.there.enters enq is.value is.enqueues;
-    dequeues = agree.there.did first (Deq is.value) (λ w same. cc) is.dequeues;
-    dequeues_again = agree.there.did second (Deq is.value) (λ w same. cc) is.dequeues_again;
+    dequeues = agree.there.did first (Dequeue is.value) (λ w same. cc) is.dequeues;
+    dequeues_again = agree.there.did second (Dequeue is.value) (λ w same. cc) is.dequeues_again;
     in_order = is.in_order;
   }
 
@@ -76,7 +76,7 @@ module _ (c d : Course) (agree : Agree c d) where
 
   pub witness_of : (empty : Operation) (cover : List Life) → IsWitnessViolation c empty cover → IsWitnessViolation d empty cover
   witness_of empty cover is = record {
-    answers_empty = agree.there.did empty Empty (λ w same. cc) is.answers_empty;
+    answers_empty = agree.there.did empty DequeueEmpty (λ w same. cc) is.answers_empty;
     covers = covers_of empty empty.call cover is.covers;
   }
 
@@ -132,9 +132,9 @@ module _ (c d : Course) (agree : Agree c d) where
 
   pub chosen_witness_of : (empty : Operation) (cover : List Life) → IsChosenWitness c empty cover → IsChosenWitness d empty cover
   chosen_witness_of empty cover is = record {
-    answers_empty = agree.there.did empty Empty (λ w same. cc) is.answers_empty;
+    answers_empty = agree.there.did empty DequeueEmpty (λ w same. cc) is.answers_empty;
     is_covered = covered_of empty is.is_covered;
-    first = λ other did covered. is.first other (agree.back.did other Empty (λ w same. cc) did)
+    first = λ other did covered. is.first other (agree.back.did other DequeueEmpty (λ w same. cc) did)
         (λ gap within. let stays = covered gap within in (stays.0, life_of d c back stays.0 stays.1, stays.2));
     cover_is_chosen = cover_of empty empty.call cover is.cover_is_chosen;
   }

@@ -1,6 +1,6 @@
 -- Places of calls and of sources, found by walks over the operations.
 use Rattle.value_match.proofs.Common.{[], All, All-permutation, All-pop, All-push, ap, arith, Bool, btree_set_len}
-use Rattle.value_match.proofs.Common.{BTreeSet, Call, CallsNoneOf, cases_Bool, cases_eq, cond, contains, Deq}
+use Rattle.value_match.proofs.Common.{BTreeSet, Call, CallsNoneOf, cases_Bool, cases_eq, cond, contains, Dequeue}
 use Rattle.value_match.proofs.Common.{each_more, enqueued_value, eq-eqb, false, false≢true, get_or, get_or-append_seam}
 use Rattle.value_match.proofs.Common.{get_or-set_other, get_or-set_same, get_or_append_left, HoldsNear, HoldsOthers}
 use Rattle.value_match.proofs.Common.{HoldsSources, inl, inr, is_eq, is_eq-nat_cmp, is_some, IsAt, IsCall, IsCallPlace}
@@ -57,7 +57,7 @@ others_sorted wanted operations n calls sorted all met moved rises = record {
 near_wider : (wanted more : BTreeSet ℕ) (operations : List Operation) (kind : OpKind) (source : Option ℕ)
     → ((v : ℕ) → contains nat_cmp wanted v ≡ true → contains nat_cmp more v ≡ true)
     → IsNearSource wanted operations kind source → IsNearSource more operations kind source
-near_wider wanted more operations (Deq v) None wider near = wider v near
+near_wider wanted more operations (Dequeue v) None wider near = wider v near
 near_wider wanted more operations _ _ wider near = near
 
 -- near sources of operations stay near when one more value is wanted
@@ -79,14 +79,14 @@ is_wanted wanted more w adds =
     adds w ∙ ap (λ b. cond b true (contains nat_cmp wanted w)) (is_eq-nat_cmp w w ∙ eq-eqb w w refl)
 
 -- an operation that is no dequeue has no source
-pub no_source : (operations : List Operation) (kind : OpKind) → ((v : ℕ) → ¬ (kind ≡ Deq v)) → IsSourceOf operations kind None
-no_source operations (Deq v) other = absurd (other v refl)
+pub no_source : (operations : List Operation) (kind : OpKind) → ((v : ℕ) → ¬ (kind ≡ Dequeue v)) → IsSourceOf operations kind None
+no_source operations (Dequeue v) other = absurd (other v refl)
 no_source operations _ other = refl
 
 -- an operation that is no dequeue has no near source
-pub no_near_source : (wanted : BTreeSet ℕ) (operations : List Operation) (kind : OpKind) → ((v : ℕ) → ¬ (kind ≡ Deq v))
+pub no_near_source : (wanted : BTreeSet ℕ) (operations : List Operation) (kind : OpKind) → ((v : ℕ) → ¬ (kind ≡ Dequeue v))
     → IsNearSource wanted operations kind None
-no_near_source wanted operations (Deq v) other = absurd (other v refl)
+no_near_source wanted operations (Dequeue v) other = absurd (other v refl)
 no_near_source wanted operations _ other = refl
 
 -- one more operation, with its near source
@@ -123,7 +123,7 @@ pub record FindsOthers (operations : List Operation) (from n : ℕ) (sources : L
 -- a source that was found near
 pub near_source : (wanted : BTreeSet ℕ) (operations : List Operation) (kind : OpKind) (source : Option ℕ) → IsNearSource wanted operations kind source
     → ¬ (source ≡ None) → IsSourceOf operations kind source
-near_source wanted operations (Deq v) None near some = absurd (some refl)
+near_source wanted operations (Dequeue v) None near some = absurd (some refl)
 near_source wanted operations _ _ near some = near
 
 -- an operation after a place, by its index among those from there on
@@ -171,7 +171,7 @@ found_here operations from n o sources calls late here is known = record {
 
 -- the value of a dequeue has no call if no call of the wanted values is of it
 pub found_nowhere : (wanted : BTreeSet ℕ) (operations : List Operation) (o : Operation) (v : ℕ) (source : Option ℕ) (calls : List Call)
-    → o.kind ≡ Deq v → source ≡ None → HoldsOthers wanted operations calls → NoneOf calls v → IsNearSource wanted operations o.kind source
+    → o.kind ≡ Dequeue v → source ≡ None → HoldsOthers wanted operations calls → NoneOf calls v → IsNearSource wanted operations o.kind source
     → IsSourceOf operations o.kind source
 found_nowhere wanted operations o v source calls is none others none_of near =
     rw (is, none) (others.has_all v (rw (is, none) at near) none_of)
@@ -198,7 +198,7 @@ none_wanted wanted operations from sources none near = record {
     any_of_none test (k ∷ keys) none = absurd (omega (arith, none))
 
     settled : (kind : OpKind) (source : Option ℕ) → IsNearSource wanted operations kind source → IsSourceOf operations kind source
-    settled (Deq v) None is_wanted = absurd (false≢true (sym (any_of_none _ (keys wanted) none) ∙ is_wanted))
+    settled (Dequeue v) None is_wanted = absurd (false≢true (sym (any_of_none _ (keys wanted) none) ∙ is_wanted))
     settled _ _ is = is
 
 -- the source of an operation after a place

@@ -40,26 +40,26 @@ pub use Rattle.history_merge.specs.Inner.Timeline.{timeline}
 pub use Rattle.history_merge.specs.Legal.{ArePlacesOf}
 pub use Rattle.history_merge.specs.Operations.{Did, enqueued_value, IsAt, NoneDid, operations_of}
 pub use Rattle.history_merge.specs.declared.operation.OpKind.{OpKind}
-pub use Rattle.history_merge.specs.declared.operation.OpKind.TheVariants.{Deq, Empty, Enq, Not}
+pub use Rattle.history_merge.specs.declared.operation.OpKind.TheVariants.{Dequeue, DequeueEmpty, Enqueue, EnqueueFailed}
 pub use Rattle.history_merge.specs.declared.operation.Operation.{Operation}
 pub use Rattle.value_match.specs.Inner.Accepted.{HasPlaces, HoldsLives, maybe_operation_at, operation_at, PlacedLife}
-pub use Rattle.value_match.specs.Inner.Accepted.{told_at, value_at}
+pub use Rattle.value_match.specs.Inner.Accepted.{history_value, value_at}
 pub use Rattle.value_match.specs.Choice.{StaysAtLeast}
 pub use Rattle.value_match.specs.Fronts.{Any, AreEntriesOf, EntersBefore, FindsLongest, HasFronts, IsEntryOf}
 pub use Rattle.value_match.specs.Fronts.{IsFrontAt, IsLongerOf, IsLongestOf, IsTableOf, NonePasses, values_at}
 pub use Rattle.value_match.specs.Inner.MatchOutcome.{AreChosenFresh, AreChosenRepeat, AreTakers, IsMatchOutcomeOf}
 pub use Rattle.value_match.specs.Inner.Others.{CallsNoneOf, HoldsNear, HoldsOthers, IsCall, IsNearSource, NoneOf}
-pub use Rattle.value_match.specs.Inner.Sources.{AreSettled, HasTakersTo, HoldsDequeues, HoldsSources, IsCallPlace}
+pub use Rattle.value_match.specs.Inner.Sources.{IsMatchedPrefix, HasTakersTo, HoldsDequeues, HoldsSources, IsCallPlace}
 pub use Rattle.value_match.specs.Inner.Sources.{IsDequeuePlace, IsFreshFrom, IsSourceOf, NoneFresh, return_at}
 pub use Rattle.value_match.specs.Inner.Sources.{TakesFrom}
 pub use Rattle.value_match.specs.Lives.{call_or_never, Course, course, course_of, dequeue_call, dequeue_of}
 pub use Rattle.value_match.specs.Lives.{dequeues_kind, enqueue_of, enqueue_return, HoldsPlaces, is_dequeue_of}
-pub use Rattle.value_match.specs.Lives.{is_empty_answer, is_refused, IsLife, IsMaybeAt, life_from, lives_of, timed}
+pub use Rattle.value_match.specs.Lives.{is_empty_answer, is_failed, IsLife, IsMaybeAt, life_from, lives_of, timed}
 pub use Rattle.value_match.specs.Inner.Courses.{on}
 pub use Rattle.value_match.specs.Outcome.{HoldsValues, IsMaybeOperation, IsNamed, IsOperation, IsSource}
 pub use Rattle.value_match.specs.Outcome.{NamesChosenFresh, NamesChosenRepeat}
 pub use Rattle.value_match.specs.Times.{initial_enqueue, initial_time}
-pub use Rattle.value_match.specs.Inner.Told.{behind, timeline_of, told_place, told_source}
+pub use Rattle.value_match.specs.Inner.HistoryPlaces.{behind, timeline_of, history_place, history_source}
 pub use Rattle.value_match.specs.Violations.{CoversFrom, fresh, IsClear, IsEnqueuedTooLate, IsFreshViolation}
 pub use Rattle.value_match.specs.Violations.{NoFreshViolation, repeat}
 pub use Rattle.value_match.specs.declared.accepted.Pair.{Pair}

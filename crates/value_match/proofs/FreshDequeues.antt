@@ -1,57 +1,57 @@
 -- Phantom dequeues, recognised by the places of the calls.
 use Rattle.value_match.proofs.Common.{ap, AreChosenFresh, AreComplete, arith, Bool, CallsFor, cases_lt, cond, Contains}
-use Rattle.value_match.proofs.Common.{contains_at, Deq, each_more, Enq, enqueued_value, false, false≢true, FreshPlaces}
-use Rattle.value_match.proofs.Common.{IfSome, inl, inr, is_refused, IsAt, IsCallPlace, IsEnqueuedTooLate, IsFreshFrom}
+use Rattle.value_match.proofs.Common.{contains_at, Dequeue, each_more, Enqueue, enqueued_value, false, false≢true, FreshPlaces}
+use Rattle.value_match.proofs.Common.{IfSome, inl, inr, is_failed, IsAt, IsCallPlace, IsEnqueuedTooLate, IsFreshFrom}
 use Rattle.value_match.proofs.Common.{IsFreshViolation, IsMaybeAt, IsSourceOf, IsTrue, le-ltb, length, List, lt-ltb}
-use Rattle.value_match.proofs.Common.{ltb-true, MatchOption, nat_lt, NoFreshViolation, None, NoneFresh, Not, on}
+use Rattle.value_match.proofs.Common.{ltb-true, MatchOption, nat_lt, NoFreshViolation, None, NoneFresh, EnqueueFailed, on}
 use Rattle.value_match.proofs.Common.{one_at, Operation, OpKind, Option, place_of, refl, return_at, same_value_call}
 use Rattle.value_match.proofs.Common.{slice_get_within, Some, subst, sym, true, ℕ, ◌+◌, ◌<◌, ◌||◌, ◌↔◌, ◌≡◌, ◌≤◌, ◌⊎◌}
-use Rattle.value_match.proofs.ToldPlaces.{fresh_dequeues}
+use Rattle.value_match.proofs.HistoryPlaces.{fresh_dequeues}
 
 -- an operation that called to enqueue a value succeeded or failed
-pub calls_for : (kind : OpKind) (v : ℕ) → enqueued_value kind ≡ Some v → (kind ≡ Enq v) ⊎ (kind ≡ Not v)
-calls_for (Enq w) v h = let same : w ≡ v = cc in inl (ap Enq same)
-calls_for (Not w) v h = let same : w ≡ v = cc in inr (ap Not same)
+pub calls_for : (kind : OpKind) (v : ℕ) → enqueued_value kind ≡ Some v → (kind ≡ Enqueue v) ⊎ (kind ≡ EnqueueFailed v)
+calls_for (Enqueue w) v h = let same : w ≡ v = cc in inl (ap Enqueue same)
+calls_for (EnqueueFailed w) v h = let same : w ≡ v = cc in inr (ap EnqueueFailed same)
 calls_for _ v h = cc
 
 -- a dequeue is a phantom dequeue if the call for its value failed or came after its return
-pub fresh_by_call : (operations : List Operation) (i p : ℕ) (o call : Operation) (v : ℕ) → IsAt operations i o → o.kind ≡ Deq v
+pub fresh_by_call : (operations : List Operation) (i p : ℕ) (o call : Operation) (v : ℕ) → IsAt operations i o → o.kind ≡ Dequeue v
     → IsAt operations p call → enqueued_value call.kind ≡ Some v
-    → IsTrue (is_refused call || nat_lt o.ret call.call) ↔ IsFreshFrom operations (Some p) o
+    → IsTrue (is_failed call || nat_lt o.ret call.call) ↔ IsFreshFrom operations (Some p) o
 fresh_by_call operations i p o call v here is there calls = (λ soon. (Some call, there, late soon), only)
   where
-    late : (is_refused call || nat_lt o.ret call.call) ≡ true → IsEnqueuedTooLate (on operations) o call
+    late : (is_failed call || nat_lt o.ret call.call) ≡ true → IsEnqueuedTooLate (on operations) o call
     late soon = record {
       value = v;
       dequeues = (contains_at operations i o here, is);
       enqueues = elim (calls_for call.kind v calls) [
         | inl accepted ↦ inr ((contains_at operations p call there, accepted), ltb-true _ _ (rw accepted at soon))
-        | inr refused ↦ inl (contains_at operations p call there, refused)
+        | inr failed ↦ inl (contains_at operations p call there, failed)
       ];
     }
 
-    only : IsFreshFrom operations (Some p) o → (is_refused call || nat_lt o.ret call.call) ≡ true
+    only : IsFreshFrom operations (Some p) o → (is_failed call || nat_lt o.ret call.call) ≡ true
     only (None, at, violates) = elim at [ ]
     only (Some e, at, violates) = let same = one_at operations p call e there at in elim violates.enqueues [
-      | inl refused ↦ rw (same, refused.1) refl
+      | inl failed ↦ rw (same, failed.1) refl
       | inr accepted ↦ rw (same, accepted.0.1, lt-ltb o.ret e.call accepted.1) refl
     ]
 
 -- a dequeue without a source is a phantom dequeue
-pub fresh_at_none : (operations : List Operation) (i : ℕ) (o x : Operation) (v : ℕ) → IsAt operations i o → o.kind ≡ Deq v
+pub fresh_at_none : (operations : List Operation) (i : ℕ) (o x : Operation) (v : ℕ) → IsAt operations i o → o.kind ≡ Dequeue v
     → IsCallPlace operations v None → IsAt operations i x → IsTrue true ↔ IsFreshFrom operations None x
 fresh_at_none operations i o x v here is none there =
     let fresh : IsFreshViolation (on operations) o None = record {
       value = v;
       dequeues = (contains_at operations i o here, is);
       not_accepted = λ x did. none x did.0 (rw did.1 refl);
-      not_refused = λ x among did. none x among (rw did refl);
+      not_failed = λ x among did. none x among (rw did refl);
     } in
     rw (one_at operations i x o there here) (λ _. (None, tt, fresh), λ _. refl)
 
 -- a dequeue with a source is a phantom dequeue if and only if the call there failed or came after its return
-pub fresh_at_some : (operations : List Operation) (i p : ℕ) (o x : Operation) (v : ℕ) (soon : Bool) → IsAt operations i o → o.kind ≡ Deq v
-    → IsCallPlace operations v (Some p) → ((call : Operation) → IsAt operations p call → soon ≡ (is_refused call || nat_lt o.ret call.call))
+pub fresh_at_some : (operations : List Operation) (i p : ℕ) (o x : Operation) (v : ℕ) (soon : Bool) → IsAt operations i o → o.kind ≡ Dequeue v
+    → IsCallPlace operations v (Some p) → ((call : Operation) → IsAt operations p call → soon ≡ (is_failed call || nat_lt o.ret call.call))
     → IsAt operations i x → IsTrue soon ↔ IsFreshFrom operations (Some p) x
 fresh_at_some operations i p o x v soon here is call tells there =
     rw (one_at operations i x o there here, tells call.0 call.1) (fresh_by_call operations i p o call.0 v here is call.1 call.2)
@@ -66,22 +66,22 @@ named_by_source operations o None source complete from violates = named source (
     named None none = tt
     named (Some p) (call, there, calls) = elim (calls_for call.kind violates.value calls) [
       | inl accepted ↦ absurd (violates.not_accepted call (contains_at operations p call there, accepted))
-      | inr refused ↦ absurd (violates.not_refused call (contains_at operations p call there) refused)
+      | inr failed ↦ absurd (violates.not_failed call (contains_at operations p call there) failed)
     ]
 named_by_source operations o (Some e) source complete from violates = named source (subst (λ kind. IsSourceOf operations kind source) violates.dequeues.1 from)
   where
     for_it : Contains operations e × CallsFor e violates.value
-    for_it = elim violates.enqueues [ inl refused ↦ (refused.0, inr refused.1) | inr accepted ↦ (accepted.0.0, inl accepted.0.1) ]
+    for_it = elim violates.enqueues [ inl failed ↦ (failed.0, inr failed.1) | inr accepted ↦ (accepted.0.0, inl accepted.0.1) ]
 
     named : (place : Option ℕ) → IsCallPlace operations violates.value place → IsMaybeAt operations place (Some e)
-    named None none = absurd (none e for_it.0 (elim for_it.1 [ inl accepted ↦ ap enqueued_value accepted | inr refused ↦ ap enqueued_value refused ]))
+    named None none = absurd (none e for_it.0 (elim for_it.1 [ inl accepted ↦ ap enqueued_value accepted | inr failed ↦ ap enqueued_value failed ]))
     named (Some p) (call, there, calls) =
         let same = same_value_call operations call e violates.value complete (contains_at operations p call there) for_it.0
         (calls_for call.kind violates.value calls) for_it.1 in
         subst (IsAt operations p) same there
 
 -- an operation that is no dequeue is no phantom dequeue
-pub no_dequeue : (operations : List Operation) (i : ℕ) (o : Operation) → IsAt operations i o → ((v : ℕ) → ¬ (o.kind ≡ Deq v)) → NoneFresh operations i
+pub no_dequeue : (operations : List Operation) (i : ℕ) (o : Operation) → IsAt operations i o → ((v : ℕ) → ¬ (o.kind ≡ Dequeue v)) → NoneFresh operations i
     → NoneFresh operations (i + 1)
 no_dequeue operations i o here other none =
     each_more (λ k x. (enq : Option Operation) → ¬ (IsFreshViolation (on operations) x enq)) operations i o here
@@ -89,8 +89,8 @@ no_dequeue operations i o here other none =
 
 -- a dequeue after the call for its value is no phantom dequeue
 pub in_time_more : (operations : List Operation) (i p : ℕ) (o : Operation) (v : ℕ) → AreComplete operations → IsAt operations i o
-    → o.kind ≡ Deq v → IsCallPlace operations v (Some p)
-    → ((call : Operation) → IsAt operations p call → false ≡ (is_refused call || nat_lt o.ret call.call))
+    → o.kind ≡ Dequeue v → IsCallPlace operations v (Some p)
+    → ((call : Operation) → IsAt operations p call → false ≡ (is_failed call || nat_lt o.ret call.call))
     → NoneFresh operations i → NoneFresh operations (i + 1)
 in_time_more operations i p o v complete here is call tells none =
     each_more (λ k x. (enq : Option Operation) → ¬ (IsFreshViolation (on operations) x enq)) operations i o here

@@ -1,7 +1,7 @@
 -- Values sorted by their enqueues' returns, and the one that stays longest in each prefix.
 use Rattle.value_match.proofs.Common.{[], All, All-from_get_or, All-get_or, All-nil, All-permutation, All-push}
 use Rattle.value_match.proofs.Common.{All-weaker, Any, ap, AreEntriesOf, arith, below_more, cases_lt, Contains}
-use Rattle.value_match.proofs.Common.{Contains-append_left, Contains-permutation, Contains-push, Empty, enqueue_return}
+use Rattle.value_match.proofs.Common.{Contains-append_left, Contains-permutation, Contains-push, DequeueEmpty, enqueue_return}
 use Rattle.value_match.proofs.Common.{EntersBefore, false, FindsLongest, Front, get_or, get_or-map, get_or-set_other}
 use Rattle.value_match.proofs.Common.{get_or-set_same, get_or-take, get_or_default, HasFronts, IfSome, inl, inr}
 use Rattle.value_match.proofs.Common.{IsEntryOf, IsFrontAt, IsLongerOf, IsLongestOf, IsNonDecreasingBy}
@@ -63,7 +63,7 @@ module _ (Passes : Life → Type 0) where
 
 -- a value for indices that are out of range
 abbrev nobody : MatchedValue
-nobody = record { life = record { enqueue = record { call = 0; ret = 0; thread = 0; kind = Empty }; dequeue = None }; source = Initial 0; dequeue = None }
+nobody = record { life = record { enqueue = record { call = 0; ret = 0; thread = 0; kind = DequeueEmpty }; dequeue = None }; source = Initial 0; dequeue = None }
 
 -- a front for indices that are out of range
 abbrev pub nowhere : Front

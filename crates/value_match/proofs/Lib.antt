@@ -11,6 +11,6 @@ pub mod Agreeing
 pub mod CallPlaces
 pub mod FreshDequeues
 pub mod RepeatedDequeues
-pub mod SortedOut
+pub mod ByKind
 pub mod Fronts
-pub mod ToldPlaces
+pub mod HistoryPlaces

@@ -1,7 +1,7 @@
 -- The one dequeue of each source and of each enqueued value, or the chosen pair of one source, found by walks over
 -- the operations.
 use Rattle.value_match.proofs.Common.{AllPairs, ap, AreChosenRepeat, AreComplete, arith, cases_eq, cases_order}
-use Rattle.value_match.proofs.Common.{contains_at, Deq, Did, Enq, enqueued_value, find, get_or, get_or-set_other}
+use Rattle.value_match.proofs.Common.{contains_at, Dequeue, Did, Enqueue, enqueued_value, find, get_or, get_or-set_other}
 use Rattle.value_match.proofs.Common.{get_or-set_same, HasTakersTo, HoldsDequeues, inl, inr, is_dequeue_of, IsAt}
 use Rattle.value_match.proofs.Common.{IsClear, IsDequeuePlace, IsMaybeAt, IsSourceOf, length, length-replicate}
 use Rattle.value_match.proofs.Common.{length-set, List, MatchOption, NoFreshViolation, None, NoneDid, on, one_at}
@@ -27,14 +27,14 @@ pub takes_source : (operations : List Operation) (i p : ℕ) (o : Operation) →
 takes_source operations i p o here source = pick o.kind refl source
   where
     pick : (kind : OpKind) → o.kind ≡ kind → IsSourceOf operations kind (Some p) → TakesFrom operations i p
-    pick (Deq v) is call = record { value = v; dequeue = o; at = here; dequeues = is; from_call = call }
+    pick (Dequeue v) is call = record { value = v; dequeue = o; at = here; dequeues = is; from_call = call }
     pick _ is wrong = cc
 
 -- an operation without a source takes from nothing
 pub takes_no_source : (operations : List Operation) (i : ℕ) (o : Operation) → IsAt operations i o → IsSourceOf operations o.kind None
     → (p : ℕ) → ¬ (TakesFrom operations i p)
 takes_no_source operations i o here none p t =
-    let is : o.kind ≡ Deq t.value = ap (λ (x : Operation). x.kind) (one_at operations i o t.dequeue here t.at) ∙ t.dequeues in
+    let is : o.kind ≡ Dequeue t.value = ap (λ (x : Operation). x.kind) (one_at operations i o t.dequeue here t.at) ∙ t.dequeues in
     let (call, there, calls) = t.from_call in
     (rw is at none) call (contains_at operations p call there) calls
 
@@ -43,7 +43,7 @@ module _ (operations : List Operation) (complete : AreComplete operations) where
   -- each operation takes from at most one call
   pub one_source : (i p q : ℕ) → TakesFrom operations i p → TakesFrom operations i q → p ≡ q
   one_source i p q x y =
-      let kinds : Deq x.value ≡ Deq y.value =
+      let kinds : Dequeue x.value ≡ Dequeue y.value =
       sym x.dequeues ∙ ap (λ (o : Operation). o.kind) (one_at operations i x.dequeue y.dequeue x.at y.at) ∙ y.dequeues in
       let value : x.value ≡ y.value = cc in
       let (call, at_p, calls) = x.from_call in
@@ -66,20 +66,20 @@ pub source_inside : (operations : List Operation) (i p : ℕ) → TakesFrom oper
 source_inside operations i p t = slice_get_within operations p t.from_call.0 t.from_call.1
 
 -- a dequeue takes from its value's enqueue
-pub takes_from_enqueue : (operations : List Operation) (i p : ℕ) (o enq : Operation) (v : ℕ) → IsAt operations i o → o.kind ≡ Deq v
-    → IsAt operations p enq → enq.kind ≡ Enq v → TakesFrom operations i p
+pub takes_from_enqueue : (operations : List Operation) (i p : ℕ) (o enq : Operation) (v : ℕ) → IsAt operations i o → o.kind ≡ Dequeue v
+    → IsAt operations p enq → enq.kind ≡ Enqueue v → TakesFrom operations i p
 takes_from_enqueue operations i p o enq v here is there accepted =
     record { value = v; dequeue = o; at = here; dequeues = is; from_call = (enq, there, ap enqueued_value accepted) }
 
 -- without phantom dequeues, each dequeue takes from a successful enqueue
 pub accepted_call : (operations : List Operation) (i p : ℕ) → NoFreshViolation (on operations) → (t : TakesFrom operations i p)
-    → (t.from_call.0).kind ≡ Enq t.value
+    → (t.from_call.0).kind ≡ Enqueue t.value
 accepted_call operations i p no_fresh t = elim (calls_for (t.from_call.0).kind t.value t.from_call.2) [
   | inl accepted ↦ accepted
-  | inr refused ↦ absurd (no_fresh t.dequeue (Some t.from_call.0) (record {
+  | inr failed ↦ absurd (no_fresh t.dequeue (Some t.from_call.0) (record {
     value = t.value;
     dequeues = (contains_at operations i t.dequeue t.at, t.dequeues);
-    enqueues = inl (contains_at operations p t.from_call.0 t.from_call.1, refused);
+    enqueues = inl (contains_at operations p t.from_call.0 t.from_call.1, failed);
   }))
 ]
 
@@ -372,7 +372,7 @@ repeat_chosen operations n pair no_fresh all is =
     let first = accepted_call operations pair.first pair.enq no_fresh one in
     let second = accepted_call operations pair.second pair.enq no_fresh two in
     let calls = one_at operations pair.enq one.from_call.0 two.from_call.0 one.from_call.1 two.from_call.1 in
-    let kinds : Enq one.value ≡ Enq two.value = sym first ∙ ap (λ (o : Operation). o.kind) calls ∙ second in
+    let kinds : Enqueue one.value ≡ Enqueue two.value = sym first ∙ ap (λ (o : Operation). o.kind) calls ∙ second in
     let same_value : one.value ≡ two.value = cc in
     let ret_one : return_at operations pair.first ≡ one.dequeue.ret = rw one.at refl in
     let ret_two : return_at operations pair.second ≡ two.dequeue.ret = rw two.at refl in (
@@ -387,7 +387,7 @@ repeat_chosen operations n pair no_fresh all is =
         violates = record {
           value = two.value;
           enqueues = (contains_at operations pair.enq two.from_call.0 two.from_call.1, second);
-          dequeues = (contains_at operations pair.first one.dequeue one.at, one.dequeues ∙ ap Deq same_value);
+          dequeues = (contains_at operations pair.first one.dequeue one.at, one.dequeues ∙ ap Dequeue same_value);
           dequeues_again = (contains_at operations pair.second two.dequeue two.at, two.dequeues);
           in_order = let order = is.in_order in omega arith;
         };
@@ -428,7 +428,7 @@ dequeues_by_enqueues operations takers no_fresh taken = record {
   each = λ i o v here is. at_place i o v here is (get_or takers i None) refl;
 }
   where
-    at_place : (i : ℕ) (o : Operation) (v : ℕ) → IsAt operations i o → o.kind ≡ Enq v → (taker : Option ℕ) → get_or takers i None ≡ taker
+    at_place : (i : ℕ) (o : Operation) (v : ℕ) → IsAt operations i o → o.kind ≡ Enqueue v → (taker : Option ℕ) → get_or takers i None ≡ taker
         → IsDequeuePlace operations v taker
     at_place i o v here is None none = λ x among dequeues.
         let j = place_of operations x among in
@@ -437,21 +437,21 @@ dequeues_by_enqueues operations takers no_fresh taken = record {
     at_place i o v here is (Some j) some =
         let t = (taken.taken i j some).1 in
         let call = accepted_call operations j i no_fresh t in
-        let kinds : Enq t.value ≡ Enq v =
+        let kinds : Enqueue t.value ≡ Enqueue v =
         sym call ∙ ap (λ (x : Operation). x.kind) (one_at operations i t.from_call.0 o t.from_call.1 here) ∙ is in
         let value : t.value ≡ v = cc in
-        (t.dequeue, t.at, t.dequeues ∙ ap Deq value)
+        (t.dequeue, t.at, t.dequeues ∙ ap Dequeue value)
 
 -- the dequeue at this place is the one that `find` gives
 pub found_at_place : (operations : List Operation) (enq : Operation) (v : ℕ) (place : Option ℕ) (dequeue : Option Operation) → IsClear (on operations)
-    → Did operations enq (Enq v) → IsDequeuePlace operations v place
+    → Did operations enq (Enqueue v) → IsDequeuePlace operations v place
     → IsMaybeAt operations place dequeue → dequeue ≡ find (is_dequeue_of v) operations
 found_at_place operations enq v place dequeue clear did is at =
     same_found operations enq v dequeue (find (is_dequeue_of v) operations) clear did (named place dequeue is at)
     (found_dequeue operations v (find (is_dequeue_of v) operations) refl)
   where
     named : (p : Option ℕ) (d : Option Operation) → IsDequeuePlace operations v p → IsMaybeAt operations p d
-        → MatchOption d (NoneDid operations (Deq v)) (λ x. Did operations x (Deq v))
+        → MatchOption d (NoneDid operations (Dequeue v)) (λ x. Did operations x (Dequeue v))
     named None None none there = none
     named (Some p) (Some d) (x, at_x, dequeues) there = (contains_at operations p d there, cc)
     named _ _ is there = absurd there

@@ -4,6 +4,6 @@ pub mod Courses
 pub mod MaybePlaces
 pub mod Others
 pub mod Sources
-pub mod SortedOut
-pub mod Told
+pub mod ByKind
+pub mod HistoryPlaces
 pub mod MatchOutcome

@@ -1,9 +1,9 @@
 ghost use Rattle.std.specs.Prelude.{◌≡◌, ◌<◌, ◌≤◌, All, IfSome, drop, length, map, slice_index_or, take};
-ghost use Rattle.value_match.specs.Inner.Accepted.{HasPlaces, maybe_operation_at, told_at, value_at};
+ghost use Rattle.value_match.specs.Inner.Accepted.{HasPlaces, maybe_operation_at, history_value, value_at};
 
+use crate::history_places::{history_source, maybe_history_place};
 use crate::life::{Life, MatchedValue};
 use crate::maybe_place::MaybePlace;
-use crate::told::{told_maybe, told_source};
 use history_merge::{OpId, Operation, PackedOperation};
 use std::marker::Model;
 
@@ -27,11 +27,11 @@ pub struct Values<'a> {
 impl<'a> Model for Values<'a> {
     ghost use Rattle.std.specs.Prelude.{List, All, map};
     ghost use Rattle.value_match.specs.declared.life.MatchedValue.{MatchedValue};
-    ghost use Rattle.value_match.specs.Inner.Accepted.{HasPlaces, told_at, value_at};
+    ghost use Rattle.value_match.specs.Inner.Accepted.{HasPlaces, history_value, value_at};
 
     ghost Value = { List MatchedValue };
 
-    ghost view = { λ v. map (told_at v.initial_count v.timeline.now) v.pairs.now };
+    ghost view = { λ v. map (history_value v.initial_count v.timeline.now) v.pairs.now };
 
     ghost invariant = { λ v. All (HasPlaces v.timeline.now) (map (value_at v.timeline.now) v.pairs.now) };
 }
@@ -45,7 +45,7 @@ impl<'a> Values<'a> {
         pairs: &'a [Pair],
     ) -> Values<'a>
         requires { All (HasPlaces timeline.now) (map (value_at timeline.now) pairs.now) }
-        ensures { result ≡ map (told_at initial_count timeline.now) pairs.now }
+        ensures { result ≡ map (history_value initial_count timeline.now) pairs.now }
     {
         Values {
             initial_count,
@@ -98,15 +98,15 @@ impl<'a> Values<'a> {
 fn value_of(initial_count: usize, timeline: &[PackedOperation], pair: Pair) -> MatchedValue
     requires enqueue { pair.enqueue < length timeline.now }
     requires dequeue { IfSome pair.dequeue (λ p. p < length timeline.now) }
-    ensures { result ≡ told_at initial_count timeline.now pair }
+    ensures { result ≡ history_value initial_count timeline.now pair }
 {
     MatchedValue {
         life: Life {
             enqueue: timeline[pair.enqueue as usize].unpack(),
             dequeue: maybe_operation(timeline, pair.dequeue),
         },
-        source: told_source(initial_count, OpId::new(pair.enqueue)),
-        dequeue: told_maybe(initial_count, pair.dequeue.id()),
+        source: history_source(initial_count, OpId::new(pair.enqueue)),
+        dequeue: maybe_history_place(initial_count, pair.dequeue.id()),
     }
 }
 

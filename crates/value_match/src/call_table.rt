@@ -72,7 +72,7 @@ impl CallTable {
         };
         self.noted = self.noted.wrapping_add(1);
         // Any other operation is written too, into the slot that belongs to no value: this needs no branch.
-        let is_call = matches!(operation.unpack().kind, OpKind::Enq(_));
+        let is_call = matches!(operation.unpack().kind, OpKind::Enqueue(_));
         let slot = self.slot_of(operation.value());
         let slot = if is_call {
             slot

@@ -4,7 +4,7 @@ ghost use Rattle.history_merge.specs.declared.operation.Operation.{Operation};
 ghost use Rattle.history_merge.specs.Complete.{AreComplete};
 ghost use Rattle.history_merge.specs.Operations.{IsAt};
 ghost use Rattle.value_match.specs.Inner.Courses.{on};
-ghost use Rattle.value_match.specs.Lives.{is_refused};
+ghost use Rattle.value_match.specs.Lives.{is_failed};
 ghost use Rattle.value_match.specs.Inner.MatchOutcome.{AreChosenFresh};
 ghost use Rattle.value_match.specs.Inner.Sources.{HoldsSources, IsFreshFrom, IsSourceOf, NoneFresh, return_at};
 ghost use Rattle.value_match.specs.Violations.{NoFreshViolation};
@@ -25,18 +25,18 @@ pub(crate) struct FreshPlaces {
 /// matched prefix, of which none is a phantom dequeue.
 pub(crate) fn first_fresh(
     operations: &[PackedOperation],
-    settled: usize,
+    prefix: usize,
     sources: &[MaybePlace],
 ) -> Option<FreshPlaces>
     requires complete { AreComplete operations.now }
     requires few { length operations.now ≤ MAX_MATCHED }
-    requires sources { HoldsSources operations.now settled sources.now }
-    requires in_time { NoneFresh operations.now settled }
+    requires sources { HoldsSources operations.now prefix sources.now }
+    requires in_time { NoneFresh operations.now prefix }
     ensures { MatchOption result (NoFreshViolation (on operations.now)) (AreChosenFresh operations.now) }
 {
     let mut first = None;
-    for place in settled..operations.len() {
-        let source = sources[place - settled];
+    for place in prefix..operations.len() {
+        let source = sources[place - prefix];
         if !is_fresh(operations, place, source) {
             continue;
         }
@@ -57,7 +57,7 @@ fn is_fresh(operations: &[PackedOperation], place: usize, source: MaybePlace) ->
     ensures { (o : Operation) → IsAt operations.now place o → IsTrue result ↔ IsFreshFrom operations.now source o }
 {
     let operation = operations[place].unpack();
-    let OpKind::Deq(_) = operation.kind else {
+    let OpKind::Dequeue(_) = operation.kind else {
         return false;
     };
     let Some(source) = source.get() else {
@@ -71,10 +71,10 @@ fn is_fresh(operations: &[PackedOperation], place: usize, source: MaybePlace) ->
 pub(crate) fn comes_too_soon(operations: &[PackedOperation], deq: Operation, source: usize) -> bool
     requires { source < length operations.now }
     ensures { (call : Operation) → IsAt operations.now source call
-        → result ≡ (is_refused call || nat_lt deq.ret call.call) }
+        → result ≡ (is_failed call || nat_lt deq.ret call.call) }
 {
     let call = operations[source].unpack();
-    matches!(call.kind, OpKind::Not(_)) || deq.ret < call.call
+    matches!(call.kind, OpKind::EnqueueFailed(_)) || deq.ret < call.call
 }
 
 /// Returns whichever of the two has the dequeue that returns first: `other`, if there is no `first`.

@@ -4,6 +4,7 @@
 mod accepted;
 mod call_table;
 mod fresh;
+mod history_places;
 mod life;
 mod matching;
 mod maybe_place;
@@ -13,7 +14,6 @@ mod presorting;
 mod sources;
 mod table;
 mod takers;
-mod told;
 mod values;
 mod violation;
 

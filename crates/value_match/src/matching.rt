@@ -3,10 +3,10 @@ ghost use Rattle.value_match.specs.Inner.Courses.{on};
 ghost use Rattle.value_match.specs.declared.matching.TheConstants.{MAX_MATCHED};
 ghost use Rattle.history_merge.specs.Inner.Timeline.{timeline};
 ghost use Rattle.history_merge.specs.Operations.{operations_of};
-ghost use Rattle.value_match.specs.Lives.{course_of, HoldsPlaces, is_empty_answer, is_refused, ListsItsLives};
+ghost use Rattle.value_match.specs.Lives.{course_of, HoldsPlaces, is_empty_answer, is_failed, ListsItsLives};
 ghost use Rattle.value_match.specs.Outcome.{HoldsValues};
 ghost use Rattle.value_match.specs.Violations.{IsClear};
-ghost use Rattle.value_match.specs.Inner.SortedOut.{IsSortedOutOf};
+ghost use Rattle.value_match.specs.Inner.ByKind.{IsByKindOf};
 
 use crate::accepted::{Pair, Values};
 use crate::places::Places;
@@ -21,10 +21,10 @@ pub const MAX_MATCHED: usize = MAX_EVENTS + MAX_INITIAL;
 /// Operations by kind: the successfully enqueued values with their dequeues, the empty dequeues and the failed
 /// enqueues.
 #[derive(Drop)]
-pub(crate) struct SortedOut {
+pub(crate) struct ByKind {
     pub(crate) values: Vec<Pair>,
     pub(crate) empties: Vec<OpId>,
-    pub(crate) refused: Vec<OpId>,
+    pub(crate) failed: Vec<OpId>,
 }
 
 /// A complete history without phantom dequeues, in which no value is dequeued twice. Contracts see its initial values
@@ -37,27 +37,27 @@ pub(crate) struct SortedOut {
 #[derive(Drop)]
 pub struct Matching<'a> {
     history: &'a History,
-    sorted: SortedOut,
+    sorted: ByKind,
 }
 
 impl<'a> Model for Matching<'a> {
     ghost use Rattle.history_merge.specs.Initial.{Contents};
     ghost use Rattle.history_merge.specs.Inner.Timeline.{timeline};
     ghost use Rattle.history_merge.specs.Operations.{operations_of};
-    ghost use Rattle.value_match.specs.Inner.SortedOut.{IsSortedOutOf};
+    ghost use Rattle.value_match.specs.Inner.ByKind.{IsByKindOf};
 
     ghost Value = { Contents };
 
     ghost view = { λ a. record { initial = a.history.now.initial; operations = operations_of a.history.now.events } };
 
     ghost invariant = { λ a.
-        IsSortedOutOf (timeline a.history.now.initial (operations_of a.history.now.events)) a.sorted };
+        IsByKindOf (timeline a.history.now.initial (operations_of a.history.now.events)) a.sorted };
 }
 
 impl<'a> Matching<'a> {
     /// Makes the matching of this history.
-    pub(crate) fn new(history: &'a History, sorted: SortedOut) -> Matching<'a>
-        requires { IsSortedOutOf (timeline history.now.initial (operations_of history.now.events)) sorted }
+    pub(crate) fn new(history: &'a History, sorted: ByKind) -> Matching<'a>
+        requires { IsByKindOf (timeline history.now.initial (operations_of history.now.events)) sorted }
         ensures { result ≡ record { initial = history.now.initial; operations = operations_of history.now.events } }
     {
         Matching { history, sorted }
@@ -90,10 +90,10 @@ impl<'a> Matching<'a> {
     }
 
     /// Returns the failed enqueues, in the order of their calls.
-    pub fn refused(&self) -> Places<'_>
-        ensures { HoldsPlaces self.now.operations is_refused result }
+    pub fn failed(&self) -> Places<'_>
+        ensures { HoldsPlaces self.now.operations is_failed result }
     {
-        Places::new(self.history.initial().len(), self.sorted.refused.as_slice())
+        Places::new(self.history.initial().len(), self.sorted.failed.as_slice())
     }
 
     /// Returns the successfully enqueued values: the initial values, front first, and then the others in the order of

@@ -1,7 +1,7 @@
 ghost use Rattle.std.specs.Prelude.{◌≡◌, ◌<◌, ◌≤◌, drop, length, map, slice_index_or, take};
-ghost use Rattle.value_match.specs.Inner.Told.{told_place};
+ghost use Rattle.value_match.specs.Inner.HistoryPlaces.{history_place};
 
-use crate::told::told_place;
+use crate::history_places::history_place;
 use history_merge::OpId;
 use std::marker::Model;
 
@@ -16,17 +16,17 @@ pub struct Places<'a> {
 
 impl<'a> Model for Places<'a> {
     ghost use Rattle.std.specs.Prelude.{ℕ, List, map};
-    ghost use Rattle.value_match.specs.Inner.Told.{told_place};
+    ghost use Rattle.value_match.specs.Inner.HistoryPlaces.{history_place};
 
     ghost Value = { List ℕ };
 
-    ghost view = { λ a. map (told_place a.initial_count) a.timeline.now };
+    ghost view = { λ a. map (history_place a.initial_count) a.timeline.now };
 }
 
 impl<'a> Places<'a> {
     /// Makes places from those of a timeline that begins with `initial_count` initial values.
     pub(crate) fn new(initial_count: usize, timeline: &'a [OpId]) -> Places<'a>
-        ensures { result ≡ map (told_place initial_count) timeline.now }
+        ensures { result ≡ map (history_place initial_count) timeline.now }
     {
         Places {
             initial_count,
@@ -48,7 +48,7 @@ impl<'a> Places<'a> {
         requires { place < length self.now }
         ensures { result ≡ slice_index_or self.now place result }
     {
-        told_place(self.initial_count, self.timeline[place])
+        history_place(self.initial_count, self.timeline[place])
     }
 
     /// Returns the places before index `place` of the list, and the others.

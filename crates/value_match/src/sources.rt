@@ -1,7 +1,7 @@
 ghost use Rattle.std.specs.Prelude.{◌≡◌, ◌<◌, ◌≤◌, IfOk, IfSome, Some, length};
 ghost use Rattle.history_merge.specs.Complete.{AreComplete};
 ghost use Rattle.value_match.specs.Inner.Others.{AreNearWith, HoldsNear};
-ghost use Rattle.value_match.specs.Inner.Sources.{AreSettled, AreSources, HasTakersTo, HoldsSources, IsCallPlace};
+ghost use Rattle.value_match.specs.Inner.Sources.{IsMatchedPrefix, AreSources, HasTakersTo, HoldsSources, IsCallPlace};
 
 use crate::call_table::CallTable;
 use crate::fresh::comes_too_soon;
@@ -20,7 +20,7 @@ const REACH: usize = 64;
 pub(crate) struct Sources {
     /// The length of the matched prefix: each dequeue in it is of a value that was in the queue, and no two are of
     /// one value.
-    pub(crate) settled: usize,
+    pub(crate) prefix: usize,
     /// At each call the dequeue of the prefix that takes its value, if there is one.
     pub(crate) takers: Vec<MaybePlace>,
     /// The sources of the operations after the prefix, one by one.
@@ -59,33 +59,37 @@ pub(crate) fn sources_of(
         from: 0,
         reach: REACH,
     };
-    let settled = settle(operations, &mut guess, takers.as_mut_slice());
-    let near = near_sources(alloc, operations, settled, guess)?;
+    let prefix = match_prefix(operations, &mut guess, takers.as_mut_slice());
+    let near = near_sources(alloc, operations, prefix, guess)?;
     let mut places = near.sources;
     if !near.wanted.is_empty() {
         let others = others_of(alloc, operations, &near.wanted)?;
-        find_others(operations, settled, &others, places.as_mut_slice());
+        find_others(operations, prefix, &others, places.as_mut_slice());
     }
     Ok(Sources {
-        settled,
+        prefix,
         takers,
         places,
     })
 }
 
 /// Returns the length of the matched prefix. Notes at the call to enqueue each of its values which dequeue takes it.
-fn settle(operations: &[PackedOperation], guess: &mut Guess, takers: &mut [MaybePlace]) -> usize
+fn match_prefix(
+    operations: &[PackedOperation],
+    guess: &mut Guess,
+    takers: &mut [MaybePlace],
+) -> usize
     requires complete { AreComplete operations.now }
     requires few { length operations.now ≤ MAX_MATCHED }
     requires none { HasTakersTo operations.now 0 takers.old }
-    ensures settled { AreSettled operations.now result takers.new }
+    ensures prefix { IsMatchedPrefix operations.now result takers.new }
     ensures within { result ≤ length operations.now }
     ensures len { length takers.new ≡ length takers.old }
 {
     for (place, operation) in operations.iter().enumerate() {
         guess.calls.note_next(operations);
         let operation = operation.unpack();
-        let OpKind::Deq(value) = operation.kind else {
+        let OpKind::Dequeue(value) = operation.kind else {
             continue;
         };
         let Some(source) = guess.find(operations, value) else {
@@ -103,19 +107,19 @@ fn settle(operations: &[PackedOperation], guess: &mut Guess, takers: &mut [Maybe
 fn near_sources(
     alloc: Global,
     operations: &[PackedOperation],
-    settled: usize,
+    prefix: usize,
     mut guess: Guess,
 ) -> Result<NearSources, AllocError>
     requires few { length operations.now ≤ MAX_MATCHED }
-    requires settled { settled ≤ length operations.now }
+    requires prefix { prefix ≤ length operations.now }
     ensures { IfOk result
-        (λ near. HoldsNear near.wanted operations.now settled (length operations.now) near.sources.items) }
+        (λ near. HoldsNear near.wanted operations.now prefix (length operations.now) near.sources.items) }
 {
-    let mut sources = Vec::with_capacity(alloc, operations.len() - settled)?;
+    let mut sources = Vec::with_capacity(alloc, operations.len() - prefix)?;
     let mut wanted = BTreeSet::new(alloc);
-    for place in settled..operations.len() {
+    for place in prefix..operations.len() {
         guess.calls.note_next(operations);
-        let OpKind::Deq(value) = operations[place].unpack().kind else {
+        let OpKind::Dequeue(value) = operations[place].unpack().kind else {
             sources.push(MaybePlace::none())?;
             continue;
         };
@@ -185,23 +189,23 @@ fn near_place(
 /// Finds the sources that weren't near among the calls of their values.
 fn find_others(
     operations: &[PackedOperation],
-    settled: usize,
+    prefix: usize,
     others: &[Call],
     sources: &mut [MaybePlace],
 )
     requires few { length operations.now ≤ MAX_MATCHED }
-    requires near { AreNearWith operations.now settled sources.old others.now }
-    ensures { HoldsSources operations.now settled sources.new }
+    requires near { AreNearWith operations.now prefix sources.old others.now }
+    ensures { HoldsSources operations.now prefix sources.new }
 {
-    for place in settled..operations.len() {
-        if sources[place - settled].get().is_some() {
+    for place in prefix..operations.len() {
+        if sources[place - prefix].get().is_some() {
             continue;
         }
-        let OpKind::Deq(value) = operations[place].unpack().kind else {
+        let OpKind::Dequeue(value) = operations[place].unpack().kind else {
             continue;
         };
         if let Some(call) = place_among(others, value) {
-            sources[place - settled] = MaybePlace::some(call);
+            sources[place - prefix] = MaybePlace::some(call);
         }
     }
 }

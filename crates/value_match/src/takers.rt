@@ -38,32 +38,32 @@ pub(crate) fn takers_of(operations: &[PackedOperation], sources: Sources) -> Tak
     ensures { AreTakers operations.now result }
 {
     let Sources {
-        settled,
+        prefix,
         takers,
         places,
     } = sources;
-    find_takers(operations, settled, places.as_slice(), takers)
+    find_takers(operations, prefix, places.as_slice(), takers)
 }
 
 /// Walks over the operations after the matched prefix, given the takers of the prefix.
 fn find_takers(
     operations: &[PackedOperation],
-    settled: usize,
+    prefix: usize,
     sources: &[MaybePlace],
     takers: Vec<MaybePlace>,
 ) -> Takers
     requires complete { AreComplete operations.now }
     requires few { length operations.now ≤ MAX_MATCHED }
-    requires sources { HoldsSources operations.now settled sources.now }
-    requires takers { HasTakersTo operations.now settled takers.items }
+    requires sources { HoldsSources operations.now prefix sources.now }
+    requires takers { HasTakersTo operations.now prefix takers.items }
     requires no_fresh { NoFreshViolation (on operations.now) }
     ensures { AreTakers operations.now result }
 {
     // At each source the dequeue of those so far that returns first.
     let mut firsts = takers;
     let mut found = None;
-    for place in settled..operations.len() {
-        let Some(source) = sources[place - settled].get() else {
+    for place in prefix..operations.len() {
+        let Some(source) = sources[place - prefix].get() else {
             continue;
         };
         let Some(other) = firsts[source].get() else {

@@ -1,6 +1,6 @@
 ghost use Rattle.std.specs.Prelude.{◌≡◌, ◌≢◌, ◌<◌, ◌≤◌, ◌+◌, ◌++◌, ◌∷◌, [], ℕ, IfOk, IfSome, length, vec_len};
 ghost use Rattle.std.specs.Vec.{vec_capacity};
-ghost use Rattle.history_merge.specs.declared.operation.OpKind.TheVariants.{Enq};
+ghost use Rattle.history_merge.specs.declared.operation.OpKind.TheVariants.{Enqueue};
 ghost use Rattle.history_merge.specs.Complete.{AreComplete};
 ghost use Rattle.history_merge.specs.Inner.Timeline.{timeline};
 ghost use Rattle.history_merge.specs.Operations.{operations_of};
@@ -8,24 +8,24 @@ ghost use Rattle.value_match.specs.Inner.Courses.{on};
 ghost use Rattle.value_match.specs.Lives.{IsOfHistory};
 ghost use Rattle.value_match.specs.Outcome.{IsMatched};
 ghost use Rattle.value_match.specs.Inner.MatchOutcome.{IsMatchOutcomeOf};
-ghost use Rattle.value_match.specs.Inner.SortedOut.{IsSortedOutOf};
+ghost use Rattle.value_match.specs.Inner.ByKind.{IsByKindOf};
 ghost use Rattle.value_match.specs.Inner.Sources.{HoldsDequeues};
 ghost use Rattle.value_match.specs.Violations.{IsClear};
 
 use crate::accepted::Pair;
 use crate::fresh::{FreshPlaces, first_fresh};
-use crate::matching::{MAX_MATCHED, Matched, Matching, SortedOut};
+use crate::history_places::{fresh_violation, repeat_violation};
+use crate::matching::{ByKind, MAX_MATCHED, Matched, Matching};
 use crate::maybe_place::MaybePlace;
 use crate::sources::sources_of;
 use crate::takers::{RepeatPlaces, Takers, takers_of};
-use crate::told::{told_fresh, told_repeat};
 use history_merge::{History, OpId, OpKind, PackedOperation};
 use std::alloc::{AllocError, Global};
 
 /// The result of matching a timeline: its operations by kind, or the violation that rules a matching out.
 #[derive(Drop)]
 pub(crate) enum MatchOutcome {
-    Clear(SortedOut),
+    Clear(ByKind),
     Fresh(FreshPlaces),
     Repeat(RepeatPlaces),
 }
@@ -50,8 +50,11 @@ pub fn match_values(alloc: Global, history: &History) -> Result<Matched<'_>, All
     let initial_count = history.initial().len();
     match find(alloc, history.by_time(), initial_count)? {
         MatchOutcome::Clear(sorted) => Ok(Matched::Clear(Matching::new(history, sorted))),
-        MatchOutcome::Fresh(places) => Ok(Matched::Fresh(told_fresh(initial_count, places))),
-        MatchOutcome::Repeat(places) => Ok(Matched::Repeat(told_repeat(initial_count, places))),
+        MatchOutcome::Fresh(places) => Ok(Matched::Fresh(fresh_violation(initial_count, places))),
+        MatchOutcome::Repeat(places) => Ok(Matched::Repeat(repeat_violation(
+            initial_count,
+            places,
+        ))),
     }
 }
 
@@ -65,12 +68,12 @@ fn find(
     ensures { IfOk result (IsMatchOutcomeOf operations.now) }
 {
     let sources = sources_of(alloc, operations, initial_count)?;
-    if let Some(places) = first_fresh(operations, sources.settled, sources.places.as_slice()) {
+    if let Some(places) = first_fresh(operations, sources.prefix, sources.places.as_slice()) {
         return Ok(MatchOutcome::Fresh(places));
     }
     match takers_of(operations, sources) {
         Takers::Once(dequeues) => {
-            let sorted = sorted_out(alloc, operations, dequeues.as_slice())?;
+            let sorted = by_kind(alloc, operations, dequeues.as_slice())?;
             Ok(MatchOutcome::Clear(sorted))
         }
         Takers::Twice(places) => Ok(MatchOutcome::Repeat(places)),
@@ -78,19 +81,19 @@ fn find(
 }
 
 /// Returns the operations by kind, where each enqueue has its dequeue in `dequeues`.
-fn sorted_out(
+fn by_kind(
     alloc: Global,
     operations: &[PackedOperation],
     dequeues: &[MaybePlace],
-) -> Result<SortedOut, AllocError>
+) -> Result<ByKind, AllocError>
     requires few { length operations.now ≤ MAX_MATCHED }
     requires clear { IsClear (on operations.now) }
     requires dequeues { HoldsDequeues operations.now dequeues.now }
-    ensures { IfOk result (IsSortedOutOf operations.now) }
+    ensures { IfOk result (IsByKindOf operations.now) }
 {
     let mut values = Vec::with_capacity(alloc, operations.len())?;
     let mut empties = Vec::new(alloc);
-    let mut refused = Vec::new(alloc);
+    let mut failed = Vec::new(alloc);
     for (place, operation) in operations.iter().enumerate() {
         let kind = operation.unpack().kind;
         let pair = Pair {
@@ -99,16 +102,16 @@ fn sorted_out(
         };
         push_accepted(&mut values, pair, kind);
         match kind {
-            OpKind::Empty => empties.push(OpId::new(place as u32))?,
-            OpKind::Not(_) => refused.push(OpId::new(place as u32))?,
-            OpKind::Enq(_) => {}
-            OpKind::Deq(_) => {}
+            OpKind::DequeueEmpty => empties.push(OpId::new(place as u32))?,
+            OpKind::EnqueueFailed(_) => failed.push(OpId::new(place as u32))?,
+            OpKind::Enqueue(_) => {}
+            OpKind::Dequeue(_) => {}
         }
     }
-    Ok(SortedOut {
+    Ok(ByKind {
         values,
         empties,
-        refused,
+        failed,
     })
 }
 
@@ -117,13 +120,13 @@ fn sorted_out(
 #[inline(always)]
 fn push_accepted(pairs: &mut Vec<Pair>, pair: Pair, kind: OpKind)
     requires { vec_len pairs.old < vec_capacity pairs.old }
-    ensures accepted { (v : ℕ) → kind ≡ Enq v → pairs.new.items ≡ pairs.old.items ++ pair ∷ [] }
-    ensures other { ((v : ℕ) → kind ≢ Enq v) → pairs.new.items ≡ pairs.old.items }
+    ensures accepted { (v : ℕ) → kind ≡ Enqueue v → pairs.new.items ≡ pairs.old.items ++ pair ∷ [] }
+    ensures other { ((v : ℕ) → kind ≢ Enqueue v) → pairs.new.items ≡ pairs.old.items }
     ensures len { vec_len pairs.new ≤ vec_len pairs.old + 1 }
     ensures capacity { vec_capacity pairs.new ≡ vec_capacity pairs.old }
 {
     pairs.push_reserved(pair);
-    if !matches!(kind, OpKind::Enq(_)) {
+    if !matches!(kind, OpKind::Enqueue(_)) {
         pairs.pop();
     }
 }

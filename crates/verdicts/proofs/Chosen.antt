@@ -1,12 +1,12 @@
 -- The chosen violation is a violation, and only one is chosen.
 use Rattle.verdicts.proofs.Common.{[], ap, AreComplete, arith, Bool, call_or_never, CallsFor, cases_lt}
-use Rattle.verdicts.proofs.Common.{chosen_cover_violates, Contains, Deq, dequeue_call, dequeue_of, dequeue_return}
-use Rattle.verdicts.proofs.Common.{dequeued_if_called, Did, did_dequeue, Enq, enqueue_of, enqueue_return, false, fresh}
+use Rattle.verdicts.proofs.Common.{chosen_cover_violates, Contains, Dequeue, dequeue_call, dequeue_of, dequeue_return}
+use Rattle.verdicts.proofs.Common.{dequeued_if_called, Did, did_dequeue, Enqueue, enqueue_of, enqueue_return, false, fresh}
 use Rattle.verdicts.proofs.Common.{FullViolation, inl, inr, IsChosenCoverFrom, IsChosenFresh, IsChosenFullViolation}
 use Rattle.verdicts.proofs.Common.{IsChosenOrderViolation, IsChosenRepeat, IsChosenWitness, IsClear, IsEnqueuedTooLate}
 use Rattle.verdicts.proofs.Common.{IsFreshViolation, IsLife, IsNeverEnqueued, IsNextOfCover, IsOrderViolation}
 use Rattle.verdicts.proofs.Common.{IsRepeatViolation, IsViolationOf, Life, List, MatchBool, MatchOption, nat_lt, NEVER}
-use Rattle.verdicts.proofs.Common.{NoFreshViolation, None, NoneDid, NoRepeatViolation, Not, on, Operation, Option}
+use Rattle.verdicts.proofs.Common.{NoFreshViolation, None, NoneDid, NoRepeatViolation, EnqueueFailed, on, Operation, Option}
 use Rattle.verdicts.proofs.Common.{order, refl, repeat, return_or_never, same_call, same_enqueue, same_return}
 use Rattle.verdicts.proofs.Common.{same_value_call, Some, StaysAtLeast, subst, sym, true, witness, ℕ, ◌<◌, ◌∙◌, ◌∷◌}
 use Rattle.verdicts.proofs.Common.{◌≡◌, ◌≤◌}
@@ -24,23 +24,23 @@ chosen_is_violation operations (witness empty cover) complete chosen =
     chosen_cover_violates operations empty cover (are_clear operations complete chosen.0 chosen.1) chosen.3.answers_empty chosen.3.cover_is_chosen
 
 dequeued_value : (operations : List Operation) (deq : Operation) (enq : Option Operation) → IsFreshViolation (on operations) deq enq
-    → (v : ℕ) × Did operations deq (Deq v)
+    → (v : ℕ) × Did operations deq (Dequeue v)
 dequeued_value operations deq None violation = (violation.value, violation.dequeues)
 dequeued_value operations deq (Some e) violation = (violation.value, violation.dequeues)
 
-one_kind : (o : Operation) (v w : ℕ) → o.kind ≡ Deq v → o.kind ≡ Deq w → v ≡ w
-one_kind o v w is_v is_w = let kinds : Deq v ≡ Deq w = sym is_v ∙ is_w in cc
+one_kind : (o : Operation) (v w : ℕ) → o.kind ≡ Dequeue v → o.kind ≡ Dequeue w → v ≡ w
+one_kind o v w is_v is_w = let kinds : Dequeue v ≡ Dequeue w = sym is_v ∙ is_w in cc
 
 late_call : (operations : List Operation) (deq enq : Operation) (late : IsEnqueuedTooLate (on operations) deq enq)
     → Contains operations enq × CallsFor enq late.value
-late_call operations deq enq late = elim late.enqueues [ inl refused ↦ (refused.0, inr refused.1) | inr accepted ↦ (accepted.0.0, inl accepted.0.1) ]
+late_call operations deq enq late = elim late.enqueues [ inl failed ↦ (failed.0, inr failed.1) | inr accepted ↦ (accepted.0.0, inl accepted.0.1) ]
 
 not_never : (operations : List Operation) (deq enq : Operation) → IsNeverEnqueued (on operations) deq → IsEnqueuedTooLate (on operations) deq enq → ⊥
 not_never operations deq enq never late =
     let values : late.value ≡ never.value = one_kind deq late.value never.value late.dequeues.1 never.dequeues.1 in
     elim late.enqueues [
-      | inl refused ↦ never.not_refused enq refused.0 (refused.1 ∙ ap (λ v. Not v) values)
-      | inr accepted ↦ never.not_accepted enq (accepted.0.0, accepted.0.1 ∙ ap (λ v. Enq v) values)
+      | inl failed ↦ never.not_failed enq failed.0 (failed.1 ∙ ap (λ v. EnqueueFailed v) values)
+      | inr accepted ↦ never.not_accepted enq (accepted.0.0, accepted.0.1 ∙ ap (λ v. Enqueue v) values)
     ]
 
 one_enqueue : (operations : List Operation) (deq : Operation) (enq enq' : Option Operation) → AreComplete operations
@@ -66,7 +66,7 @@ one_fresh operations deq deq' enq enq' complete x y =
 
 -- no other dequeue of the value returned before the first of the chosen two
 no_sooner : (operations : List Operation) (enq first second other : Operation) (v : ℕ) → IsChosenRepeat (on operations) enq first second
-    → Did operations enq (Enq v) → Did operations first (Deq v) → Did operations other (Deq v) → first.ret ≤ other.ret
+    → Did operations enq (Enqueue v) → Did operations first (Dequeue v) → Did operations other (Dequeue v) → first.ret ≤ other.ret
 no_sooner operations enq first second other v chosen enqueues dequeues dequeues' = elim (cases_lt other.ret first.ret) [
   | inl less ↦
       let repeats : IsRepeatViolation (on operations) enq other first =
@@ -85,11 +85,11 @@ one_repeat operations enq enq' first first' second second' complete x y =
     let seconds = same_return operations second second' complete x.violates.dequeues_again.0 y.violates.dequeues_again.0 (omega arith) in
     let v = x.violates.value in
     let values : y.violates.value ≡ v = one_kind second' y.violates.value v y.violates.dequeues_again.1
-    (subst (λ o. o.kind ≡ Deq v) seconds x.violates.dequeues_again.1) in
-    let enqueues' : Did operations enq' (Enq v) = subst (λ w. Did operations enq' (Enq w)) values y.violates.enqueues in
-    let dequeues' : Did operations first' (Deq v) = subst (λ w. Did operations first' (Deq w)) values y.violates.dequeues in
+    (subst (λ o. o.kind ≡ Dequeue v) seconds x.violates.dequeues_again.1) in
+    let enqueues' : Did operations enq' (Enqueue v) = subst (λ w. Did operations enq' (Enqueue w)) values y.violates.enqueues in
+    let dequeues' : Did operations first' (Dequeue v) = subst (λ w. Did operations first' (Dequeue w)) values y.violates.dequeues in
     let enqs = same_enqueue operations enq enq' v complete x.violates.enqueues enqueues' in
-    let sooner = no_sooner operations enq' first' second' first v y (subst (λ e. Did operations e (Enq v)) enqs x.violates.enqueues)
+    let sooner = no_sooner operations enq' first' second' first v y (subst (λ e. Did operations e (Enqueue v)) enqs x.violates.enqueues)
     dequeues' x.violates.dequeues in
     let sooner' = no_sooner operations enq first second first' v x x.violates.enqueues x.violates.dequeues dequeues' in
     let firsts = same_return operations first first' complete x.violates.dequeues.0 dequeues'.0 (omega arith) in
@@ -100,11 +100,11 @@ both_stay : (x y : Life) → StaysAtLeast x y → StaysAtLeast y x → (dequeue_
 both_stay x y first second = (omega arith, omega arith)
 
 one_dequeue : (operations : List Operation) (v w : ℕ) (d d' : Option Operation) → AreComplete operations → v ≡ w
-    → MatchOption d (NoneDid operations (Deq v)) (λ d. Did operations d (Deq v)) → MatchOption d' (NoneDid operations (Deq w)) (λ d. Did operations d (Deq w))
+    → MatchOption d (NoneDid operations (Dequeue v)) (λ d. Did operations d (Dequeue v)) → MatchOption d' (NoneDid operations (Dequeue w)) (λ d. Did operations d (Dequeue w))
     → call_or_never d ≡ call_or_never d' → d ≡ d'
 one_dequeue operations v w None None complete values x y calls = refl
-one_dequeue operations v w None (Some d) complete values x y calls = absurd (x d y.0 (y.1 ∙ ap (λ v. Deq v) (sym values)))
-one_dequeue operations v w (Some d) None complete values x y calls = absurd (y d x.0 (x.1 ∙ ap (λ v. Deq v) values))
+one_dequeue operations v w None (Some d) complete values x y calls = absurd (x d y.0 (y.1 ∙ ap (λ v. Dequeue v) (sym values)))
+one_dequeue operations v w (Some d) None complete values x y calls = absurd (y d x.0 (x.1 ∙ ap (λ v. Dequeue v) values))
 one_dequeue operations v w (Some d) (Some d') complete values x y calls = ap (λ o. Some o) (same_call operations d d' complete x.0 y.0 calls)
 
 -- lives that begin and end at the same times are equal
@@ -112,7 +112,7 @@ one_life : (operations : List Operation) (x y : Life) → AreComplete operations
     → enqueue_return x ≡ enqueue_return y → dequeue_call x ≡ dequeue_call y → x ≡ y
 one_life operations x y complete is_x is_y returns calls =
     let enqueues = same_return operations (enqueue_of x) (enqueue_of y) complete is_x.1.0 is_y.1.0 returns in
-    let kinds : Enq is_x.0 ≡ Enq is_y.0 = sym is_x.1.1 ∙ ap (λ o. o.kind) enqueues ∙ is_y.1.1 in
+    let kinds : Enqueue is_x.0 ≡ Enqueue is_y.0 = sym is_x.1.1 ∙ ap (λ o. o.kind) enqueues ∙ is_y.1.1 in
     let dequeues = one_dequeue operations is_x.0 is_y.0 (dequeue_of x) (dequeue_of y) complete (cc) is_x.2 is_y.2 calls in
     λ i. record { enqueue = enqueues i; dequeue = dequeues i }
 
@@ -125,8 +125,8 @@ one_left operations x y complete is_x is_y called_x called_y returns =
     let did_x = did_dequeue operations x d is_x at_x in
     let did_y = did_dequeue operations y e is_y at_y in
     let one = same_return operations d e complete did_x.0 did_y.0 (sym (ap return_or_never at_x) ∙ returns ∙ ap return_or_never at_y) in
-    let values : is_y.0 ≡ is_x.0 = one_kind e is_y.0 is_x.0 did_y.1 (subst (λ o. o.kind ≡ Deq is_x.0) one did_x.1) in
-    let enqueues = same_enqueue operations (enqueue_of x) (enqueue_of y) is_x.0 complete is_x.1 (subst (λ v. Did operations (enqueue_of y) (Enq v)) values is_y.1) in
+    let values : is_y.0 ≡ is_x.0 = one_kind e is_y.0 is_x.0 did_y.1 (subst (λ o. o.kind ≡ Dequeue is_x.0) one did_x.1) in
+    let enqueues = same_enqueue operations (enqueue_of x) (enqueue_of y) is_x.0 complete is_x.1 (subst (λ v. Did operations (enqueue_of y) (Enqueue v)) values is_y.1) in
     one_life operations x y complete is_x is_y (ap (λ (o : Operation). o.ret) enqueues)
     (ap call_or_never at_x ∙ ap (λ (o : Operation). o.call) one ∙ sym (ap call_or_never at_y))
 

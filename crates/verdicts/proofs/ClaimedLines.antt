@@ -1,8 +1,8 @@
 -- A violation is determined by its kind and its lines. When lines show a violation of each kind, and when they are a
 -- linearization.
 use Rattle.verdicts.proofs.Common.{[], AllWithin, ap, AreLives, arith, Bool, CallsRise, cases_lt, ClaimLine, Contains}
-use Rattle.verdicts.proofs.Common.{contains_at, Contents, course_of, course_on, covers_are_lives, CoversFrom, Deq}
-use Rattle.verdicts.proofs.Common.{dequeue_call, dequeue_of, dequeued_if_called, drop, Enq, enqueue_of, EnqueuedBefore}
+use Rattle.verdicts.proofs.Common.{contains_at, Contents, course_of, course_on, covers_are_lives, CoversFrom, Dequeue}
+use Rattle.verdicts.proofs.Common.{dequeue_call, dequeue_of, dequeued_if_called, drop, Enqueue, enqueue_of, EnqueuedBefore}
 use Rattle.verdicts.proofs.Common.{Err, false, flat_map, fresh, get_or, get_or_default, HoldsAt, inl, inr}
 use Rattle.verdicts.proofs.Common.{IsBinarySearchResult, IsNonDecreasingBy, IsSearchInRange, IsTrue, length, Life}
 use Rattle.verdicts.proofs.Common.{LineDid, lines_of, LinesCover, List, MatchBool, MatchOption, MatchResult, max}
@@ -69,16 +69,16 @@ none_did_from_cases operations kind false some = (
     nobody = record { call = 0; ret = 0; thread = 0; kind = kind }
 
 -- the lines of lives don't begin with a dequeue
-no_dequeue_first : (d : Operation) (rest : List Operation) (cover : List Life) (v : ℕ) → d.kind ≡ Deq v → AreLives cover
+no_dequeue_first : (d : Operation) (rest : List Operation) (cover : List Life) (v : ℕ) → d.kind ≡ Dequeue v → AreLives cover
     → d ∷ rest ≡ flat_map operations_of_life cover → ⊥
 no_dequeue_first d rest [] v is lives same = absurd (cc)
 no_dequeue_first d rest (life ∷ cover) v is lives same =
     let one : d ≡ enqueue_of life = cc in
-    let clash : Deq v ≡ Enq lives.0.0 = sym is ∙ ap (λ (o : Operation). o.kind) one ∙ lives.0.1 in
+    let clash : Dequeue v ≡ Enqueue lives.0.0 = sym is ∙ ap (λ (o : Operation). o.kind) one ∙ lives.0.1 in
     cc
 
-one_dequeue : (d d' : Option Operation) (xs ys : List Life) → MatchOption d ⊤ (λ d. (v : ℕ) × (d.kind ≡ Deq v))
-    → MatchOption d' ⊤ (λ d. (v : ℕ) × (d.kind ≡ Deq v)) → AreLives xs → AreLives ys
+one_dequeue : (d d' : Option Operation) (xs ys : List Life) → MatchOption d ⊤ (λ d. (v : ℕ) × (d.kind ≡ Dequeue v))
+    → MatchOption d' ⊤ (λ d. (v : ℕ) × (d.kind ≡ Dequeue v)) → AreLives xs → AreLives ys
     → option_to_list d ++ flat_map operations_of_life xs ≡ option_to_list d' ++ flat_map operations_of_life ys
     → (d ≡ d') × (flat_map operations_of_life xs ≡ flat_map operations_of_life ys)
 one_dequeue None None xs ys is is' lives lives' same = (refl, same)
@@ -162,7 +162,7 @@ comes_after_first values v w place at none = (
 -- lines with a further value are a cover if and only if the later ones are
 pub more_lines_cover : (initial : List ℕ) (operations : List Operation) (empty line : ClaimLine) (lines : List ClaimLine) (d : ClaimLine)
     → 3 ≤ length lines
-    → ((v : ℕ) × EnqueuedBefore initial operations line (get_or lines 0 d) v × LineDid initial operations (get_or lines 1 d) (Deq v))
+    → ((v : ℕ) × EnqueuedBefore initial operations line (get_or lines 0 d) v × LineDid initial operations (get_or lines 1 d) (Dequeue v))
     → LinesCover initial operations empty (get_or lines 1 d) (drop 2 lines) ↔ LinesCover initial operations empty line lines
 more_lines_cover initial operations empty line (l ∷ m ∷ n ∷ lines) d long (v, enters, leaves) =
     (λ covers. (v, enters, leaves, covers), λ (w, enters', leaves', covers). covers)

@@ -48,7 +48,7 @@ pub use Rattle.history_merge.specs.Legal.{ArePlacesOf, IsLegalOrder, IsLineariza
 pub use Rattle.history_merge.specs.Operations.{Did, IsAt, NoneDid, operation_of, operations_of, Precedes}
 pub use Rattle.history_merge.specs.Queue.{accept, accept_all, IsAccepted}
 pub use Rattle.history_merge.specs.declared.operation.OpKind.{OpKind}
-pub use Rattle.history_merge.specs.declared.operation.OpKind.TheVariants.{Deq, Empty, Enq, Not}
+pub use Rattle.history_merge.specs.declared.operation.OpKind.TheVariants.{Dequeue, DequeueEmpty, Enqueue, EnqueueFailed}
 pub use Rattle.history_merge.specs.declared.operation.Operation.{Operation}
 pub use Rattle.history_merge.proofs.Distinct.{call_before_return, call_by_return, calls_rise, CallsFor, contains_at}
 pub use Rattle.history_merge.proofs.Distinct.{contains_cons, no_enqueue, not_in_none, one_at, operation_within}
@@ -63,7 +63,7 @@ pub use Rattle.value_match.specs.Choice.{IsChosenCover, IsChosenCoverFrom, IsCho
 pub use Rattle.value_match.specs.Choice.{IsChosenOrderViolation, IsChosenRepeat, IsChosenWitness, IsNextOfCover}
 pub use Rattle.value_match.specs.Choice.{StaysAtLeast}
 pub use Rattle.value_match.specs.Times.{initial_enqueue, initial_time, time_of}
-pub use Rattle.value_match.specs.Inner.Told.{behind}
+pub use Rattle.value_match.specs.Inner.HistoryPlaces.{behind}
 pub use Rattle.value_match.specs.Lives.{AreLeastFreeGaps, call_or_never, Course, course, course_of, Covers}
 pub use Rattle.value_match.specs.Lives.{dequeue_call, dequeue_of, dequeue_return, enqueue_call, enqueue_of}
 pub use Rattle.value_match.specs.Lives.{enqueue_return, is_empty_answer, IsCovered, IsLeastFreeGap, IsLife, IsMaybeAt}
@@ -82,9 +82,9 @@ pub use Rattle.value_match.specs.declared.life.Life.{Life}
 pub use Rattle.value_match.specs.declared.violation.CoverStep.{CoverStep}
 pub use Rattle.value_match.specs.declared.life.Source.{Source}
 pub use Rattle.value_match.specs.declared.violation.Violation.{Violation}
-pub use Rattle.value_match.proofs.ToldPlaces.{AreLives, course_on, covers_are_lives, dequeues, enqueue_place}
-pub use Rattle.value_match.proofs.ToldPlaces.{enqueue_stands, few_initial, mapped_option, operation_on, same_operation}
-pub use Rattle.value_match.proofs.ToldPlaces.{source_on, timeline_at, timeline_of_history}
+pub use Rattle.value_match.proofs.HistoryPlaces.{AreLives, course_on, covers_are_lives, dequeues, enqueue_place}
+pub use Rattle.value_match.proofs.HistoryPlaces.{enqueue_stands, few_initial, mapped_option, operation_on, same_operation}
+pub use Rattle.value_match.proofs.HistoryPlaces.{source_on, timeline_at, timeline_of_history}
 pub use Rattle.value_match.proofs.Lists.{keeps, kept, mapped_from, mapped_to, one_deeper, passed_filter, passes_filter}
 pub use Rattle.value_match.proofs.Lives.{dequeued_if_called, one_life_of_enqueue}
 pub use Rattle.order_violation.specs.declared.pair.OrderPair.{OrderPair}

@@ -1,6 +1,6 @@
 -- Without any one of its values, a chosen cover leaves a gap of the window open.
-use Rattle.verdicts.proofs.Common.{[], ap, arith, Bool, call_or_never, Contains, contains_cons, Covers, Deq}
-use Rattle.verdicts.proofs.Common.{dequeue_call, dequeued_if_called, Did, Empty, Enq, enqueue_of, enqueue_return}
+use Rattle.verdicts.proofs.Common.{[], ap, arith, Bool, call_or_never, Contains, contains_cons, Covers, Dequeue}
+use Rattle.verdicts.proofs.Common.{dequeue_call, dequeued_if_called, Did, DequeueEmpty, Enqueue, enqueue_of, enqueue_return}
 use Rattle.verdicts.proofs.Common.{false, inl, inr, IsChosenCoverFrom, IsClear, IsCovered, IsLife, IsNextOfCover, Life}
 use Rattle.verdicts.proofs.Common.{List, ltb-false, MatchBool, MatchOption, nat_lt, no_enqueue, NoneDid, not_in_none}
 use Rattle.verdicts.proofs.Common.{on, Operation, refl, return_differs_from_call, return_in_range, subst, sym, true, ℕ}
@@ -31,13 +31,13 @@ module _ (operations : List Operation) (empty : Operation) where
     | inr later ↦ chosen_are_lives rest (dequeue_call life) y (others_chosen life rest y later (nat_lt empty.ret (dequeue_call life)) refl chosen.1).1 later
   ]
 
-  module _ (clear : IsClear (on operations)) (did : Did operations empty Empty) (covered : IsCovered (on operations) empty) where
+  module _ (clear : IsClear (on operations)) (did : Did operations empty DequeueEmpty) (covered : IsCovered (on operations) empty) where
     -- an operation called inside the window of the empty dequeue
     pub record IsCalledInside (before : Operation) : Type 0 where
       pub among : Contains operations before
       pub after_call : empty.call ≤ before.call
       pub before_return : before.call < empty.ret
-      pub is_other : (v : ℕ) → before.kind ≢ Enq v
+      pub is_other : (v : ℕ) → before.kind ≢ Enqueue v
 
     enters_before : (before : Operation) (life : Life) → IsCalledInside before → IsLife (on operations) life → Covers life before.call
         → enqueue_return life < before.call
@@ -66,9 +66,9 @@ module _ (operations : List Operation) (empty : Operation) where
         let found = dequeued_if_called life (omega (arith, others.0)) in
         let d = found.0 in
         let calls : dequeue_call life ≡ d.call = ap call_or_never found.1 in
-        let did_d = subst (λ o. MatchOption o (NoneDid operations (Deq chosen.0.is_life.0)) (λ d. Did operations d (Deq chosen.0.is_life.0))) found.1
+        let did_d = subst (λ o. MatchOption o (NoneDid operations (Dequeue chosen.0.is_life.0)) (λ d. Did operations d (Dequeue chosen.0.is_life.0))) found.1
         chosen.0.is_life.2 in
-        let other = no_enqueue d (Deq chosen.0.is_life.0) did_d.1 refl in
+        let other = no_enqueue d (Dequeue chosen.0.is_life.0) did_d.1 refl in
         let differs = return_differs_from_call operations empty d clear.complete did.0 did_d.0 other in
         let below : d.call < empty.ret = below_if_not_same d.call empty.ret (omega (arith, others.0)) (λ same. differs (sym same)) in (
           d,

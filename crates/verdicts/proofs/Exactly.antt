@@ -2,14 +2,14 @@
 -- without one a linearization is built.
 use Rattle.verdicts.proofs.Common.{[], accept, accept_all, AllZip, ap, append-nil, AreComplete, AreLeastFreeGaps}
 use Rattle.verdicts.proofs.Common.{arith, call_by_return, call_or_never, cases_order, chosen_cover}
-use Rattle.verdicts.proofs.Common.{chosen_order_exists, Contains, Contains-permutation, contains_at, CoversFrom, Deq}
+use Rattle.verdicts.proofs.Common.{chosen_order_exists, Contains, Contains-permutation, contains_at, CoversFrom, Dequeue}
 use Rattle.verdicts.proofs.Common.{dequeue_call, dequeue_of, dequeue_return, dequeued_if_called, Did, did_dequeue}
-use Rattle.verdicts.proofs.Common.{Empty, Enq, enqueue_of, eq-eqb, few_initial, filter, fresh, FullViolation, inl, inr}
+use Rattle.verdicts.proofs.Common.{DequeueEmpty, Enqueue, enqueue_of, eq-eqb, few_initial, filter, fresh, FullViolation, inl, inr}
 use Rattle.verdicts.proofs.Common.{is_empty_answer, IsAccepted, IsClear, IsEnqueuedTooLate, IsLeastFreeGap}
 use Rattle.verdicts.proofs.Common.{IsLegalOrder, IsLife, IsLinearizable, IsNeverEnqueued, IsOrderViolation}
 use Rattle.verdicts.proofs.Common.{IsPermutation-sym, IsRepeatViolation, IsSome, IsViolationOf, Life}
 use Rattle.verdicts.proofs.Common.{linearizable_from_exactly, List, map, mapped_option, MatchOption, no_enqueue, None}
-use Rattle.verdicts.proofs.Common.{NoneDid, NoOrderViolation, Not, NoWitnessViolation, on, one_deeper, Operation}
+use Rattle.verdicts.proofs.Common.{NoneDid, NoOrderViolation, EnqueueFailed, NoWitnessViolation, on, one_deeper, Operation}
 use Rattle.verdicts.proofs.Common.{OpKind, Option, option_map, order, pairs_at, Precedes, refl, repeat}
 use Rattle.verdicts.proofs.Common.{return_or_never, rules, slice_get, slice_get-map, Some, sym, take, timeline}
 use Rattle.verdicts.proofs.Common.{witness, zero, ℕ, ◌++◌, ◌<◌, ◌∙◌, ◌∷◌, ◌≡◌, ◌≤◌, ◌⊎◌}
@@ -37,10 +37,10 @@ left_queue start kinds accepted = pick (accept_all start kinds) accepted
     pick None h = cc
     pick (Some left) h = (left, refl)
 
-dequeued_front : (queue next : List ℕ) (v : ℕ) → accept queue (Deq v) ≡ Some next → queue ≡ v ∷ next
+dequeued_front : (queue next : List ℕ) (v : ℕ) → accept queue (Dequeue v) ≡ Some next → queue ≡ v ∷ next
 dequeued_front queue next v e = grind arith
 
-empty_queue : (queue next : List ℕ) → accept queue Empty ≡ Some next → queue ≡ []
+empty_queue : (queue next : List ℕ) → accept queue DequeueEmpty ≡ Some next → queue ≡ []
 empty_queue queue next e = grind arith
 
 abbrev kinds_of : List Operation → List OpKind
@@ -77,30 +77,30 @@ module _ (operations listed : List Operation) (complete : AreComplete operations
   gone_through j o at = enqueued_is_dequeued (take j (kinds_of listed)) [] (before j o at).queue (before j o at).reached
 
   -- at a dequeue, the values that were dequeued before it, and its own next
-  gone_at_dequeue : (j v : ℕ) (o : Operation) → slice_get listed j ≡ Some o → o.kind ≡ Deq v
+  gone_at_dequeue : (j v : ℕ) (o : Operation) → slice_get listed j ≡ Some o → o.kind ≡ Dequeue v
       → (rest : List ℕ) × (enqueued (take j (kinds_of listed)) ≡ dequeued (take j (kinds_of listed)) ++ v ∷ rest)
   gone_at_dequeue j v o at is =
-      let accepted : accept (before j o at).queue (Deq v) ≡ Some (before j o at).next = rw (← is) (before j o at).accepted in
+      let accepted : accept (before j o at).queue (Dequeue v) ≡ Some (before j o at).next = rw (← is) (before j o at).accepted in
       let front = dequeued_front (before j o at).queue (before j o at).next v accepted in
       ((before j o at).next, gone_through j o at ∙ ap (λ q. dequeued (take j (kinds_of listed)) ++ q) front)
 
   -- an enqueue of the value comes before its dequeue
-  enqueue_before : (j v : ℕ) (o : Operation) → slice_get listed j ≡ Some o → o.kind ≡ Deq v
-      → (i : ℕ) × (x : Operation) × (i < j) × (slice_get listed i ≡ Some x) × (x.kind ≡ Enq v)
+  enqueue_before : (j v : ℕ) (o : Operation) → slice_get listed j ≡ Some o → o.kind ≡ Dequeue v
+      → (i : ℕ) × (x : Operation) × (i < j) × (slice_get listed i ≡ Some x) × (x.kind ≡ Enqueue v)
   enqueue_before j v o at is =
       let gone = gone_at_dequeue j v o at is in
       let member : Member v (enqueued (take j (kinds_of listed))) = rw gone.1 (Member-right v (dequeued (take j (kinds_of listed))) (v ∷ gone.0) (inl refl)) in
       let stands = enqueue_of_member (kinds_of listed) j v member in
-      let found = operation_at listed stands.0 (Enq v) stands.2 in
+      let found = operation_at listed stands.0 (Enqueue v) stands.2 in
       (stands.0, found.0, stands.1, found.1, found.2)
 
-  calls_it : (v : ℕ) (k : OpKind) → (k ≡ Enq v) ⊎ (k ≡ Not v) → calls_of_kind v k ≡ 1
+  calls_it : (v : ℕ) (k : OpKind) → (k ≡ Enqueue v) ⊎ (k ≡ EnqueueFailed v) → calls_of_kind v k ≡ 1
   calls_it v k is = grind (arith, eq-eqb v v refl)
 
-  no_repeat : (i j v : ℕ) (x y : Operation) → slice_get listed i ≡ Some x → slice_get listed j ≡ Some y → x.kind ≡ Deq v → y.kind ≡ Deq v → i < j → ⊥
+  no_repeat : (i j v : ℕ) (x y : Operation) → slice_get listed i ≡ Some x → slice_get listed j ≡ Some y → x.kind ≡ Dequeue v → y.kind ≡ Dequeue v → i < j → ⊥
   no_repeat i j v x y at_i at_j is_x is_y below =
       let gone = gone_at_dequeue j v y at_j is_y in
-      let taken = split_at_dequeue (kinds_of listed) i j v below (kind_at listed i x (Deq v) at_i is_x) in
+      let taken = split_at_dequeue (kinds_of listed) i j v below (kind_at listed i x (Dequeue v) at_i is_x) in
       let once = one_calls v operations complete.apart in
       let moved = calls-IsPermutation v operations listed legal.holds_each_once in
       let few = count-le-calls (kinds_of listed) j v in
@@ -112,7 +112,7 @@ module _ (operations listed : List Operation) (complete : AreComplete operations
       let out_here = count_here v taken.0 in
       omega arith
 
-  dequeue_has_one_place : (i j v : ℕ) (x y : Operation) → slice_get listed i ≡ Some x → slice_get listed j ≡ Some y → x.kind ≡ Deq v → y.kind ≡ Deq v → i ≡ j
+  dequeue_has_one_place : (i j v : ℕ) (x y : Operation) → slice_get listed i ≡ Some x → slice_get listed j ≡ Some y → x.kind ≡ Dequeue v → y.kind ≡ Dequeue v → i ≡ j
   dequeue_has_one_place i j v x y at_i at_j is_x is_y = elim (cases_order i j) [
     | inl same ↦ same
     | inr (inl below) ↦ absurd (no_repeat i j v x y at_i at_j is_x is_y below)
@@ -120,7 +120,7 @@ module _ (operations listed : List Operation) (complete : AreComplete operations
   ]
 
   -- any dequeue of a value is the one at the place of a dequeue of it
-  stands_there : (i v : ℕ) (o d : Operation) → slice_get listed i ≡ Some o → o.kind ≡ Deq v → Did operations d (Deq v) → slice_get listed i ≡ Some d
+  stands_there : (i v : ℕ) (o d : Operation) → slice_get listed i ≡ Some o → o.kind ≡ Dequeue v → Did operations d (Dequeue v) → slice_get listed i ≡ Some d
   stands_there i v o d at is did =
       let there = place_of d did.0 in ap (slice_get listed) (dequeue_has_one_place i there.0 v o d at there.1 is did.1) ∙ there.1
 
@@ -136,12 +136,12 @@ module _ (operations listed : List Operation) (complete : AreComplete operations
       let place = place_of deq violation.dequeues.0 in
       let first = enqueue_before place.0 v deq place.1 violation.dequeues.1 in
       elim violation.enqueues [
-        | inl refused ↦
-            let there = place_of enq refused.0 in
+        | inl failed ↦
+            let there = place_of enq failed.0 in
             let same = call_has_one_place first.0 there.0 v first.1 enq first.3 there.1 (calls_it v first.1.kind (inl first.4))
-            (calls_it v enq.kind (inr refused.1)) in
+            (calls_it v enq.kind (inr failed.1)) in
             let kinds_differ : first.1 ≡ enq = some_injective (sym first.3 ∙ ap (slice_get listed) same ∙ there.1) in
-            let clash : Enq v ≡ Not v = sym first.4 ∙ ap (λ o. o.kind) kinds_differ ∙ refused.1 in
+            let clash : Enqueue v ≡ EnqueueFailed v = sym first.4 ∙ ap (λ o. o.kind) kinds_differ ∙ failed.1 in
             cc
         | inr late ↦
             let there = place_of enq late.0.0 in
@@ -162,12 +162,12 @@ module _ (operations listed : List Operation) (complete : AreComplete operations
       omega arith
 
   -- if a is enqueued before b, the dequeue of a comes before that of b
-  dequeued_before : (i j k a b : ℕ) (x y z : Operation) → slice_get listed i ≡ Some x → x.kind ≡ Enq a → slice_get listed j ≡ Some y → y.kind ≡ Enq b
-      → slice_get listed k ≡ Some z → z.kind ≡ Deq b → i < j → j < k → StandsBefore (kinds_of listed) k (Deq a)
+  dequeued_before : (i j k a b : ℕ) (x y z : Operation) → slice_get listed i ≡ Some x → x.kind ≡ Enqueue a → slice_get listed j ≡ Some y → y.kind ≡ Enqueue b
+      → slice_get listed k ≡ Some z → z.kind ≡ Dequeue b → i < j → j < k → StandsBefore (kinds_of listed) k (Dequeue a)
   dequeued_before i j k a b x y z at_x is_x at_y is_y at_z is_z first below =
       let gone = gone_at_dequeue k b z at_z is_z in
-      let put_b = split_at_enqueue (kinds_of listed) j k b below (kind_at listed j y (Enq b) at_y is_y) in
-      let put_a = split_at_enqueue (kinds_of listed) i j a first (kind_at listed i x (Enq a) at_x is_x) in
+      let put_b = split_at_enqueue (kinds_of listed) j k b below (kind_at listed j y (Enqueue b) at_y is_y) in
+      let put_a = split_at_enqueue (kinds_of listed) i j a first (kind_at listed i x (Enqueue a) at_x is_x) in
       let once = one_calls b operations complete.apart in
       let moved = calls-IsPermutation b operations listed legal.holds_each_once in
       let few = count-le-calls (kinds_of listed) k b in
@@ -190,8 +190,8 @@ module _ (operations listed : List Operation) (complete : AreComplete operations
   ]
 
   -- a dequeue of a value that comes before an operation wasn't called after it; each dequeued value has one dequeue
-  not_left_later : (v time : ℕ) (prior : Operation) (named : Option Operation) → MatchOption named (NoneDid operations (Deq v)) (λ d. Did operations d (Deq v))
-      → prior.ret ≡ time → time < call_or_never named → (i k : ℕ) (o : Operation) → i < k → slice_get listed i ≡ Some o → o.kind ≡ Deq v
+  not_left_later : (v time : ℕ) (prior : Operation) (named : Option Operation) → MatchOption named (NoneDid operations (Dequeue v)) (λ d. Did operations d (Dequeue v))
+      → prior.ret ≡ time → time < call_or_never named → (i k : ℕ) (o : Operation) → i < k → slice_get listed i ≡ Some o → o.kind ≡ Dequeue v
       → slice_get listed k ≡ Some prior → ⊥
   not_left_later v time prior None none same later i k o below at is at_k = none o (is_operation i o at) is
   not_left_later v time prior (Some d) did same later i k o below at is at_k =
@@ -212,18 +212,18 @@ module _ (operations listed : List Operation) (complete : AreComplete operations
       (calls_it w (enqueue_of b).kind (inl violation.is_b.1.1)) in
       let stands = dequeued_before x.0 y.0 z.0 v w (enqueue_of a) (enqueue_of b) dequeue.0 x.1 violation.is_a.1.1 y.1 violation.is_b.1.1 z.1
       did.1 first (omega (arith, put.2)) in
-      let found = operation_at listed stands.0 (Deq v) stands.2 in
+      let found = operation_at listed stands.0 (Dequeue v) stands.2 in
       not_left_later v (dequeue_return b) dequeue.0 (dequeue_of a) violation.is_a.2 (sym (ap return_or_never dequeue.1)) violation.overtakes.1
       stands.0 z.0 found.0 stands.1 found.1 found.2 z.1
 
   -- no value enqueued before an empty dequeue is still in the queue, so its dequeue comes before the empty dequeue
-  gone_at_empty : (j v : ℕ) (o : Operation) → slice_get listed j ≡ Some o → o.kind ≡ Empty → (i : ℕ) (x : Operation) → slice_get listed i ≡ Some x
-      → x.kind ≡ Enq v → i < j
-      → StandsBefore (kinds_of listed) j (Deq v)
+  gone_at_empty : (j v : ℕ) (o : Operation) → slice_get listed j ≡ Some o → o.kind ≡ DequeueEmpty → (i : ℕ) (x : Operation) → slice_get listed i ≡ Some x
+      → x.kind ≡ Enqueue v → i < j
+      → StandsBefore (kinds_of listed) j (Dequeue v)
   gone_at_empty j v o at is i x at_x is_x below =
-      let accepted : accept (before j o at).queue Empty ≡ Some (before j o at).next = rw (← is) (before j o at).accepted in
+      let accepted : accept (before j o at).queue DequeueEmpty ≡ Some (before j o at).next = rw (← is) (before j o at).accepted in
       let none = empty_queue (before j o at).queue (before j o at).next accepted in
-      let put = split_at_enqueue (kinds_of listed) i j v below (kind_at listed i x (Enq v) at_x is_x) in
+      let put = split_at_enqueue (kinds_of listed) i j v below (kind_at listed i x (Enqueue v) at_x is_x) in
       let gone = gone_through j o at ∙ ap (λ q. dequeued (take j (kinds_of listed)) ++ q) none ∙ append-nil (dequeued (take j (kinds_of listed))) in
       let member : Member v (dequeued (take j (kinds_of listed))) =
       rw (← gone, put.1) (Member-right v (enqueued (take i (kinds_of listed))) (v ∷ put.0) (inl refl)) in
@@ -231,17 +231,17 @@ module _ (operations listed : List Operation) (complete : AreComplete operations
 
   -- a value of a cover that is enqueued before an operation which doesn't come after the empty dequeue is dequeued
   -- before the empty dequeue
-  dequeued_first : (j : ℕ) (empty : Operation) → slice_get listed j ≡ Some empty → empty.kind ≡ Empty → (life : Life) (is : IsLife (on operations) life)
+  dequeued_first : (j : ℕ) (empty : Operation) → slice_get listed j ≡ Some empty → empty.kind ≡ DequeueEmpty → (life : Life) (is : IsLife (on operations) life)
       (p : ℕ) (prior : Operation) → slice_get listed p ≡ Some prior → p ≤ j → Precedes (enqueue_of life) prior
-      → (i : ℕ) × (x : Operation) × (i < j) × (slice_get listed i ≡ Some x) × (x.kind ≡ Deq is.0)
+      → (i : ℕ) × (x : Operation) × (i < j) × (slice_get listed i ≡ Some x) × (x.kind ≡ Dequeue is.0)
   dequeued_first j empty at answers life is p prior at_p near before =
       let enq = place_of (enqueue_of life) is.1.0 in
       let below = enqueues_differ enq.0 p (enqueue_of life) prior enq.1 at_p before in
       let stands = gone_at_empty j is.0 empty at answers enq.0 (enqueue_of life) enq.1 is.1.1 (omega arith) in
-      let found = operation_at listed stands.0 (Deq is.0) stands.2 in
+      let found = operation_at listed stands.0 (Dequeue is.0) stands.2 in
       (stands.0, found.0, stands.1, found.1, found.2)
 
-  excludes_cover : (j : ℕ) (empty : Operation) → slice_get listed j ≡ Some empty → empty.kind ≡ Empty → (cover : List Life) (p : ℕ) (prior : Operation)
+  excludes_cover : (j : ℕ) (empty : Operation) → slice_get listed j ≡ Some empty → empty.kind ≡ DequeueEmpty → (cover : List Life) (p : ℕ) (prior : Operation)
       → slice_get listed p ≡ Some prior → p ≤ j → (frontier : ℕ) → prior.call ≡ frontier → CoversFrom (on operations) empty frontier cover → ⊥
   excludes_cover j empty at is [] p prior at_p near frontier same covers = covers
   excludes_cover j empty at is (life ∷ []) p prior at_p near frontier same covers =
@@ -271,12 +271,12 @@ violation_excludes_order initial operations full complete violation exists =
     excludes_violation (timeline initial operations) linear.0 complete linear.1 full violation
 
 gaps_of : (operations answers : List Operation) → IsClear (on operations) → NoWitnessViolation (on operations)
-    → ((o : Operation) → Contains answers o → Did operations o Empty) → (gaps : List ℕ) × AllZip (λ o c. IsLeastFreeGap (on operations) o c) answers gaps
+    → ((o : Operation) → Contains answers o → Did operations o DequeueEmpty) → (gaps : List ℕ) × AllZip (λ o c. IsLeastFreeGap (on operations) o c) answers gaps
 gaps_of operations [] clear none each = ([], search rules)
 gaps_of operations (o ∷ answers) clear none each =
     let did = each o (zero, omega arith, refl) in
     let rest = gaps_of operations answers clear none (λ x among. each x (one_deeper o answers x among)) in
-    elim (free_gap_or_covered operations o clear did.0 (no_enqueue o Empty did.1 refl)) [
+    elim (free_gap_or_covered operations o clear did.0 (no_enqueue o DequeueEmpty did.1 refl)) [
       | inl free ↦ (free.0 ∷ rest.0, (free.1, rest.1))
       | inr covered ↦ let cover = chosen_cover operations o clear did covered in absurd (none o cover.0 cover.2)
     ]

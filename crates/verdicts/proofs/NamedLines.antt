@@ -1,10 +1,10 @@
 -- The values and calls that the lines of a violation name, and the operations of a selection by them.
 use Rattle.verdicts.proofs.Common.{[], All-contains, All-from_recursion, AllByRecursion, ap, arith, Bool, Contains}
 use Rattle.verdicts.proofs.Common.{Contains-append_cases, Contains-append_left, Contains-append_right, contains_cons}
-use Rattle.verdicts.proofs.Common.{CoversFrom, Deq, dequeue_call, dequeue_of, Did, Enq, enqueue_of, flat_map, fresh}
+use Rattle.verdicts.proofs.Common.{CoversFrom, Dequeue, dequeue_call, dequeue_of, Did, Enqueue, enqueue_of, flat_map, fresh}
 use Rattle.verdicts.proofs.Common.{FullViolation, inl, inr, IsFreshViolation, IsLife, IsOrderViolation}
 use Rattle.verdicts.proofs.Common.{IsRepeatViolation, IsViolationOf, Life, lines_of, List, MatchOption, None, NoneDid}
-use Rattle.verdicts.proofs.Common.{Not, not_in_none, on, one_deeper, Operation, operations_of_life, OpKind, Option}
+use Rattle.verdicts.proofs.Common.{EnqueueFailed, not_in_none, on, one_deeper, Operation, operations_of_life, OpKind, Option}
 use Rattle.verdicts.proofs.Common.{option_map_or, option_to_list, order, Precedes, refl, repeat, selects, Some, subst}
 use Rattle.verdicts.proofs.Common.{value_of, witness, zero, ℕ, ◌++◌, ◌∙◌, ◌∷◌, ◌≡◌, ◌⊎◌}
 use Rattle.linearizer.proofs.Elements.{from_flat_map}
@@ -29,25 +29,25 @@ each_of P xs all o among = All-contains P xs o (All-from_recursion P xs all) amo
 pub fresh_lines : (operations : List Operation) (deq : Operation) (enq : Option Operation) → IsFreshViolation (on operations) deq enq
     → (v : ℕ) × ((o : Operation) → Contains (deq ∷ option_to_list enq) o → IsOpOf operations v o)
 fresh_lines operations deq None is =
-    (is.value, each_of (IsOpOf operations is.value) (deq ∷ []) (op_of operations deq (Deq is.value) is.value is.dequeues refl, tt))
+    (is.value, each_of (IsOpOf operations is.value) (deq ∷ []) (op_of operations deq (Dequeue is.value) is.value is.dequeues refl, tt))
 fresh_lines operations deq (Some enq) is = (
   is.value,
   each_of (IsOpOf operations is.value) (deq ∷ enq ∷ [])
-      (op_of operations deq (Deq is.value) is.value is.dequeues refl, (by_call is.enqueues, tt)),
+      (op_of operations deq (Dequeue is.value) is.value is.dequeues refl, (by_call is.enqueues, tt)),
 )
   where
-    by_call : Did operations enq (Not is.value) ⊎ (Did operations enq (Enq is.value) × Precedes deq enq) → IsOpOf operations is.value enq
-    by_call (inl refused) = op_of operations enq (Not is.value) is.value refused refl
-    by_call (inr late) = op_of operations enq (Enq is.value) is.value late.0 refl
+    by_call : Did operations enq (EnqueueFailed is.value) ⊎ (Did operations enq (Enqueue is.value) × Precedes deq enq) → IsOpOf operations is.value enq
+    by_call (inl failed) = op_of operations enq (EnqueueFailed is.value) is.value failed refl
+    by_call (inr late) = op_of operations enq (Enqueue is.value) is.value late.0 refl
 
 -- the lines of a repeated-value violation have its value
 pub repeat_lines : (operations : List Operation) (enq first second : Operation) (is : IsRepeatViolation (on operations) enq first second) → (o : Operation)
     → Contains (enq ∷ first ∷ second ∷ []) o → IsOpOf operations is.value o
 repeat_lines operations enq first second is = each_of (IsOpOf operations is.value) (enq ∷ first ∷ second ∷ []) (
-  op_of operations enq (Enq is.value) is.value is.enqueues refl,
+  op_of operations enq (Enqueue is.value) is.value is.enqueues refl,
   (
-    op_of operations first (Deq is.value) is.value is.dequeues refl,
-    (op_of operations second (Deq is.value) is.value is.dequeues_again refl, tt),
+    op_of operations first (Dequeue is.value) is.value is.dequeues refl,
+    (op_of operations second (Dequeue is.value) is.value is.dequeues_again refl, tt),
   ),
 )
 
@@ -66,12 +66,12 @@ pub record IsOpOfLife (operations : List Operation) (cover : List Life) (o : Ope
 pub life_lines : (operations : List Operation) (life : Life) (is : IsLife (on operations) life) (o : Operation) → Contains (operations_of_life life) o
     → IsOpOf operations is.0 o
 life_lines operations life is = each_of (IsOpOf operations is.0) (enqueue_of life ∷ option_to_list (dequeue_of life))
-    (op_of operations (enqueue_of life) (Enq is.0) is.0 is.1 refl, dequeue (dequeue_of life) is.2)
+    (op_of operations (enqueue_of life) (Enqueue is.0) is.0 is.1 refl, dequeue (dequeue_of life) is.2)
   where
-    dequeue : (d : Option Operation) → MatchOption d (NoneDid operations (Deq is.0)) (λ d. Did operations d (Deq is.0))
+    dequeue : (d : Option Operation) → MatchOption d (NoneDid operations (Dequeue is.0)) (λ d. Did operations d (Dequeue is.0))
         → AllByRecursion (IsOpOf operations is.0) (option_to_list d)
     dequeue None none = tt
-    dequeue (Some d) did = (op_of operations d (Deq is.0) is.0 did refl, tt)
+    dequeue (Some d) did = (op_of operations d (Dequeue is.0) is.0 did refl, tt)
 
 -- the operations of both values are lines of an order violation
 pub line_of_a : (a b : Life) (o : Operation) → Contains (operations_of_life a) o → Contains (lines_of (order a b)) o

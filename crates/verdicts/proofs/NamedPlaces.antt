@@ -5,8 +5,8 @@ use Rattle.verdicts.proofs.Common.{AreComplete, AreLives, ArePartOf, ArePlacesOf
 use Rattle.verdicts.proofs.Common.{call_in, cases_lt, chosen_of, ClaimLine, cond, cons_option, Contains}
 use Rattle.verdicts.proofs.Common.{Contains-append_cases, Contains-append_left, Contains-append_right}
 use Rattle.verdicts.proofs.Common.{Contains-permutation, contains_at, contains_cons, course, course_on}
-use Rattle.verdicts.proofs.Common.{covers_are_lives, CoverStep, Deq, dequeue_call, dequeue_of, dequeued_if_called}
-use Rattle.verdicts.proofs.Common.{dequeues, Did, Empty, Enq, enqueue_of, enqueue_place, Event, false, few_initial}
+use Rattle.verdicts.proofs.Common.{covers_are_lives, CoverStep, Dequeue, dequeue_call, dequeue_of, dequeued_if_called}
+use Rattle.verdicts.proofs.Common.{dequeues, Did, DequeueEmpty, Enqueue, enqueue_of, enqueue_place, Event, false, few_initial}
 use Rattle.verdicts.proofs.Common.{filter, flat_map, fresh, FullViolation, initial_enqueue, initial_enqueues}
 use Rattle.verdicts.proofs.Common.{initial_time, inl, inr, is_operation, IsChosenCoverFrom}
 use Rattle.verdicts.proofs.Common.{IsChosenFullViolation, IsChosenViolation, IsClear, IsCompleteHistory, IsCovered}
@@ -28,8 +28,8 @@ use Rattle.verdicts.proofs.Retiming.{lifted, lifted_late, lifted_rises, retimed,
 use Rattle.history_merge.specs.Inner.Timeline.{earlier_by}
 use Rattle.linearizer.proofs.Elements.{none_twice-filter, NoneTwice, zip_joined}
 use Rattle.claims.specs.declared.shown.LinePlace.TheVariants.{Initial, Op}
-use Rattle.value_match.proofs.ToldPlaces.{call_told, dequeue_told, empty_told, fresh_dequeues, maybe_told, source_told}
-use Rattle.value_match.specs.Inner.Told.{told_place, told_source}
+use Rattle.value_match.proofs.HistoryPlaces.{call_told, dequeue_told, empty_told, fresh_dequeues, maybe_told, source_told}
+use Rattle.value_match.specs.Inner.HistoryPlaces.{history_place, history_source}
 use Rattle.order_violation.specs.Pairs.{IsChosenPair}
 use Rattle.linearizer.specs.Order.{AreChosenAndLegal}
 use Rattle.verdicts.specs.Laws.{VerdictHasFewLines}
@@ -56,7 +56,7 @@ use Rattle.claims.specs.declared.shown.LinePlace.TheVariants as place
 
 -- the value of a successful enqueue
 abbrev pub accepted_value : OpKind → ℕ
-accepted_value (Enq v) = v
+accepted_value (Enqueue v) = v
 accepted_value _ = 0
 
 -- the line of an operation of a timeline, where initial values are enqueued before the time of ticket 0
@@ -84,7 +84,7 @@ pub line_of_call : (o : Operation) (call : ℕ) → o.call ≡ call + ORIGIN →
 line_of_call o call is = grind (arith, nat_tests)
 
 -- the value of an operation's line, if the operations before the first ticket are successful enqueues
-pub value_of_line : (o : Operation) → (o.call < ORIGIN → (v : ℕ) × (o.kind ≡ Enq v)) → value_in (line_of o) ≡ value_of o.kind
+pub value_of_line : (o : Operation) → (o.call < ORIGIN → (v : ℕ) × (o.kind ≡ Enqueue v)) → value_in (line_of o) ≡ value_of o.kind
 value_of_line o enqueues = elim (cases_lt o.call ORIGIN) [
   | inl early ↦ let found = (enqueues early).1 in grind (arith, nat_tests)
   | inr late ↦ ap value_in (late_line o late)
@@ -214,12 +214,12 @@ module _ (initial : List ℕ) (operations : List Operation) (few : length initia
   maybe_at None among = (None, tt)
   maybe_at (Some d) among = let at = place_of all d (among d (zero, omega arith, refl)) in (Some at.0, at.1)
 
-  life_at : (life : Life) → MatchOption (dequeue_of life) ⊤ (λ d. (v : ℕ) × (d.kind ≡ Deq v)) → AreAmong (operations_of_life life)
+  life_at : (life : Life) → MatchOption (dequeue_of life) ⊤ (λ d. (v : ℕ) × (d.kind ≡ Dequeue v)) → AreAmong (operations_of_life life)
       → (step : CoverStep) × IsNamed initial operations step.source step.dequeue life
   life_at life ends among =
       let enqueue = place_of all (enqueue_of life) (among (enqueue_of life) (zero, omega arith, refl)) in
       let dequeue = maybe_at (dequeue_of life) (λ o at. among o (one_deeper (enqueue_of life) (option_to_list (dequeue_of life)) o at)) in (
-        record { source = told_source k enqueue.0; dequeue = option_map (told_place k) dequeue.0 },
+        record { source = history_source k enqueue.0; dequeue = option_map (history_place k) dequeue.0 },
         (
           source_told initial operations few enqueue.0 (enqueue_of life) enqueue.1,
           maybe_told initial operations few dequeue.0 (dequeue_of life) dequeue.1 ends,
@@ -255,14 +255,14 @@ module _ (initial : List ℕ) (operations : List Operation) (few : length initia
       let d = place_of all deq (among deq (zero, omega arith, refl)) in
       let e = maybe_at enq (λ o at. among o (one_deeper deq (option_to_list enq) o at)) in
       let dequeues = fresh_dequeues all deq enq is in (
-        violation.Fresh (told_place k d.0) (option_map (told_place k) e.0),
+        violation.Fresh (history_place k d.0) (option_map (history_place k) e.0),
         (dequeue_told initial operations few d.0 deq dequeues.0 d.1 dequeues.1, call_told initial operations few d.0 deq e.0 enq d.1 e.1 is),
       )
   violation_at (repeat enq first second) is among =
       let e = place_of all enq (among enq (zero, omega arith, refl)) in
       let d = place_of all first (among first (1, omega arith, refl)) in
       let f = place_of all second (among second (2, omega arith, refl)) in (
-        violation.Repeat (told_source k e.0) (told_place k d.0) (told_place k f.0),
+        violation.Repeat (history_source k e.0) (history_place k d.0) (history_place k f.0),
         (
           source_told initial operations few e.0 enq e.1,
           dequeue_told initial operations few d.0 first is.value d.1 is.dequeues.1,
@@ -278,7 +278,7 @@ module _ (initial : List ℕ) (operations : List Operation) (few : length initia
       let o = place_of all empty (among empty (zero, omega arith, refl)) in
       let are = covers_are_lives all empty empty.call cover is.covers in
       let steps = cover_at cover are (λ x at. among x (one_deeper empty (flat_map operations_of_life cover) x at)) in
-      (violation.Witness (told_place k o.0) steps.0, (empty_told initial operations few o.0 empty o.1 is.answers_empty.1, steps.1))
+      (violation.Witness (history_place k o.0) steps.0, (empty_told initial operations few o.0 empty o.1 is.answers_empty.1, steps.1))
 
 -- ---- a chosen violation decides a history, and so does a chosen order that is legal
 
@@ -353,7 +353,7 @@ two_events events complete =
 
 -- ---- the lines of a violation
 
-module _ (operations : List Operation) (empty : Operation) (clear : IsClear (on operations)) (did : Did operations empty Empty)
+module _ (operations : List Operation) (empty : Operation) (clear : IsClear (on operations)) (did : Did operations empty DequeueEmpty)
     (covered : IsCovered (on operations) empty) where
   -- no value is in a chosen cover twice, since each leaves before the later ones
   cover_once : (cover : List Life) (before : Operation) → IsCalledInside operations empty clear did covered before
@@ -383,7 +383,7 @@ few_or_once operations (order a b) complete chosen = inl (two_lives (dequeue_of 
 few_or_once operations (witness empty cover) complete chosen =
     let clear : IsClear (on operations) = record { complete = complete; no_fresh = chosen.0; no_repeat = chosen.1 } in
     let did = chosen.3.answers_empty in
-    let other = no_enqueue empty Empty did.1 refl in
+    let other = no_enqueue empty DequeueEmpty did.1 refl in
     let window = call_before_return operations empty complete did.0 other in inr (
       λ among.
           let line = cover_lines operations cover (λ y in_cover. chosen_are_lives operations empty cover empty.call y chosen.3.cover_is_chosen in_cover)

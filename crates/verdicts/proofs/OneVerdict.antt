@@ -1,7 +1,7 @@
 -- Each result of a search in a history is unique.
 use Rattle.verdicts.proofs.Common.{[], AllPairs, AllZip, ap, ap₂, AreComplete, ArePlacesOf, arith}
 use Rattle.verdicts.proofs.Common.{behind, cases_lt, chosen_of, Contains, Contains-permutation}
-use Rattle.verdicts.proofs.Common.{Course, course, course_on, CoverStep, dequeue_of, Did, Empty, enqueue_of, Event}
+use Rattle.verdicts.proofs.Common.{Course, course, course_on, CoverStep, dequeue_of, Did, DequeueEmpty, enqueue_of, Event}
 use Rattle.verdicts.proofs.Common.{filter, fresh, FullViolation, get_or, initial_enqueue, inl, inr}
 use Rattle.verdicts.proofs.Common.{is_empty_answer, IsAt, IsChosenCover, IsChosenViolation, IsClear, IsCompleteFrom}
 use Rattle.verdicts.proofs.Common.{IsCovered, IsGapAnswer, IsLeastFreeGap, IsMaybeOperation, IsNamed}
@@ -14,7 +14,7 @@ use Rattle.verdicts.proofs.Common.{repeat, slice_get, slice_get-get_or, slice_ge
 use Rattle.verdicts.proofs.Common.{subst, sym, time_of, timed, timeline, timeline_is_complete, timeline_of_history}
 use Rattle.verdicts.proofs.Common.{true, Violation, witness, Yes, ℕ, ◌<◌, ◌↔◌, ◌∙◌, ◌∷◌, ◌≡◌, ◌≤◌}
 use Rattle.value_match.proofs.Agreeing.{chosen_order_of, chosen_witness_of, cover_of}
-use Rattle.value_match.proofs.ToldPlaces.{clear_on, clear_told, source_place}
+use Rattle.value_match.proofs.HistoryPlaces.{clear_on, clear_told, source_place}
 use Rattle.linearizer.proofs.OneOrder.{one_chosen_order, one_list}
 use Rattle.order_violation.specs.Pairs.{violation_of}
 use Rattle.empty_witness.specs.declared.answer.GapAnswer.{GapAnswer}
@@ -264,7 +264,7 @@ gaps_told _ _ same = cc
 
 -- if each empty dequeue has a free gap, none is covered
 none_covered : (h : Course) (gaps : List ℕ) (o : Operation)
-    → AllZip (λ o c. IsLeastFreeGap h o c) (filter is_empty_answer h.operations) gaps → Did h.operations o Empty → IsCovered h o → ⊥
+    → AllZip (λ o c. IsLeastFreeGap h o c) (filter is_empty_answer h.operations) gaps → Did h.operations o DequeueEmpty → IsCovered h o → ⊥
 none_covered h gaps o each did covered =
     let passes : is_empty_answer o ≡ true = rw did.1 refl in
     let place = place_of (filter is_empty_answer h.operations) o (passes_filter is_empty_answer h.operations o passes did.0) in

@@ -4,7 +4,7 @@
 use Rattle.verdicts.proofs.Common.{[], ap, AreComplete, arith, Bool, call_before_return, call_by_return, call_or_never}
 use Rattle.verdicts.proofs.Common.{cases_lt, cond, Contains, Contains-append_cases, Contains-append_left}
 use Rattle.verdicts.proofs.Common.{Contains-append_right, contains_cons, Covers, dequeue_call, dequeue_of}
-use Rattle.verdicts.proofs.Common.{dequeue_return, dequeued_if_called, Did, did_dequeue, Empty, Enq, enqueue_at}
+use Rattle.verdicts.proofs.Common.{dequeue_return, dequeued_if_called, Did, did_dequeue, DequeueEmpty, Enqueue, enqueue_at}
 use Rattle.verdicts.proofs.Common.{enqueue_of, enqueue_place, enqueue_return, enqueues_from, eq-eqb, eqb-true, false}
 use Rattle.verdicts.proofs.Common.{filter, flat_map, fresh, FullViolation, initial_enqueues, initial_time, inl, inr}
 use Rattle.verdicts.proofs.Common.{IsChosenCoverFrom, IsChosenFullViolation, IsChosenWitness, IsClear, IsCovered}
@@ -481,7 +481,7 @@ first_line (witness empty cover) = (empty, (zero, omega arith, refl))
 -- the two values of an order violation are different
 not_itself : (operations : List Operation) (a b : Life) (is : IsOrderViolation (on operations) a b) → AreComplete operations → is.is_a.0 ≡ is.is_b.0 → ⊥
 not_itself operations a b is complete same =
-    let one = same_enqueue operations (enqueue_of a) (enqueue_of b) is.is_b.0 complete (subst (λ v. Did operations (enqueue_of a) (Enq v)) same is.is_a.1)
+    let one = same_enqueue operations (enqueue_of a) (enqueue_of b) is.is_b.0 complete (subst (λ v. Did operations (enqueue_of a) (Enqueue v)) same is.is_a.1)
     is.is_b.1 in
     let ordered = call_by_return operations (enqueue_of b) complete is.is_b.1.0 in
     let returns = ap (λ o. o.ret) one in
@@ -536,7 +536,7 @@ module _ {values calls : ℕ → Bool} {h : ℕ → ℕ} {low : ℕ} {xs ys : Li
 
     -- the other operations have values of the cover
     has_value_of_cover : (o : Operation) (v : ℕ) → Contains ys o → HasValue o v
-        → (life : Life) × Contains cover life × Did ys (enqueue_of life) (Enq v)
+        → (life : Life) × Contains cover life × Did ys (enqueue_of life) (Enqueue v)
     has_value_of_cover o v among is =
         let line = are o among in
         elim (line_is line.0 line.1.among) [
@@ -544,14 +544,14 @@ module _ {values calls : ℕ → Bool} {h : ℕ → ℕ} {low : ℕ} {xs ys : Li
           | inr of_life ↦
               let both : Some of_life.is_life.0 ≡ Some v = sym of_life.is_of.1 ∙ line.1.same_value ∙ is in
               let values_same : of_life.is_life.0 ≡ v = cc in
-              (of_life.life, of_life.among, subst (λ w. Did ys (enqueue_of of_life.life) (Enq w)) values_same of_life.is_life.1)
+              (of_life.life, of_life.among, subst (λ w. Did ys (enqueue_of of_life.life) (Enqueue w)) values_same of_life.is_life.1)
         ]
 
     -- the value that is left out was the only one in the queue at some gap
     not_covered_without : (v : ℕ) → HasValue missing v → (o : Operation) → Contains xs o → retimed h o ≡ empty → IsCovered (on xs) o → ⊥
     not_covered_without v is_missing o among same covered =
         let x = has_value_of_cover missing v was is_missing in
-        let other = no_enqueue empty Empty chosen.answers_empty.1 refl in
+        let other = no_enqueue empty DequeueEmpty chosen.answers_empty.1 refl in
         let window = call_before_return ys empty stands.complete chosen.answers_empty.0 other in
         let gap = left_by ys empty clear chosen.answers_empty chosen.is_covered cover empty x.0
         (record { among = chosen.answers_empty.0; after_call = omega arith; before_return = window; is_other = other }) chosen.cover_is_chosen x.1 in

@@ -5,13 +5,13 @@ use Rattle.verdicts.proofs.Common.{AllPairs-filter, AllPairs-tail, AllZip-long, 
 use Rattle.verdicts.proofs.Common.{AreComplete, AreDistinct, arith, Bool, call_or_never, called_value}
 use Rattle.verdicts.proofs.Common.{called_values, chosen_cover_is_shortest, cond, cons_option, Contains}
 use Rattle.verdicts.proofs.Common.{Contains-append_cases, Contains-append_left, Contains-append_right, Contains-get_or}
-use Rattle.verdicts.proofs.Common.{contains_cons, course, CoversFrom, CoverStep, Deq, dequeue_of, Did, Empty, Enq}
+use Rattle.verdicts.proofs.Common.{contains_cons, course, CoversFrom, CoverStep, Dequeue, dequeue_of, Did, DequeueEmpty, Enqueue}
 use Rattle.verdicts.proofs.Common.{enqueue_of, eqb-true, Event, false, filter, filter_map, find, flat_map, fresh}
 use Rattle.verdicts.proofs.Common.{FullViolation, get_or, holds_ticket, inl, inr, is_call, IsChosenViolation}
 use Rattle.verdicts.proofs.Common.{IsCompleteFrom, IsCompleteHistory, IsLife, IsNamed, IsShortestCover, IsTrue}
 use Rattle.verdicts.proofs.Common.{IsViolationOf, IsWitnessViolation, keeps, kept, kind_of, length, Life, lines_of}
 use Rattle.verdicts.proofs.Common.{List, list_any-from_Any, map, map-append, MatchOption, MAX_INITIAL, MAX_THREAD}
-use Rattle.verdicts.proofs.Common.{MAX_TICKET, Names, nat_eq, nat_tests, NEVER, None, NoneDid, Not, not_in_none}
+use Rattle.verdicts.proofs.Common.{MAX_TICKET, Names, nat_eq, nat_tests, NEVER, None, NoneDid, EnqueueFailed, not_in_none}
 use Rattle.verdicts.proofs.Common.{on, one_at, one_deeper, Operation, operations_are_complete, operations_of}
 use Rattle.verdicts.proofs.Common.{operations_of_life, OpKind, Option, option_map, option_to_list, order}
 use Rattle.verdicts.proofs.Common.{passed_filter, passes_filter, Precedes, projection, refl, repeat, return_or_never}
@@ -92,9 +92,9 @@ module _ {from to : List Operation} {g : Operation → Operation} {IsTaken : Ope
   pub life_carried : (life : Life) → AreTaken (operations_of_life life) → IsLife (on from) life → IsLife (on to) (mapped_life g life)
   life_carried life taken is = (
     is.0,
-    c.did (enqueue_of life) (Enq is.0) (taken (enqueue_of life) (zero, omega arith, refl)) is.1,
-    mapped_then _ _ g (dequeue_of life) is.2 (c.none_did (enqueue_of life) is.0 (Enq is.0) (Deq is.0) is.1 refl refl)
-        (λ d at. c.did d (Deq is.0) (taken d (one_deeper (enqueue_of life) (option_to_list (dequeue_of life)) d at))),
+    c.did (enqueue_of life) (Enqueue is.0) (taken (enqueue_of life) (zero, omega arith, refl)) is.1,
+    mapped_then _ _ g (dequeue_of life) is.2 (c.none_did (enqueue_of life) is.0 (Enqueue is.0) (Dequeue is.0) is.1 refl refl)
+        (λ d at. c.did d (Dequeue is.0) (taken d (one_deeper (enqueue_of life) (option_to_list (dequeue_of life)) d at))),
   )
 
   -- an operation that returns before an optional call does so after mapping
@@ -141,26 +141,26 @@ module _ {from to : List Operation} {g : Operation → Operation} {IsTaken : Ope
       mapped_then _ _ g enq is
       (λ never. record {
         value = never.value;
-        dequeues = c.did deq (Deq never.value) first never.dequeues;
-        not_accepted = λ enq did. c.none_did deq never.value (Deq never.value) (Enq never.value) never.dequeues refl refl
+        dequeues = c.did deq (Dequeue never.value) first never.dequeues;
+        not_accepted = λ enq did. c.none_did deq never.value (Dequeue never.value) (Enqueue never.value) never.dequeues refl refl
             (λ o among is. never.not_accepted o (among, is)) enq did.0 did.1;
-        not_refused = c.none_did deq never.value (Deq never.value) (Not never.value) never.dequeues refl refl never.not_refused;
+        not_failed = c.none_did deq never.value (Dequeue never.value) (EnqueueFailed never.value) never.dequeues refl refl never.not_failed;
       })
       (λ e at late.
       let taken_e = taken e (one_deeper deq (option_to_list enq) e at) in record {
         value = late.value;
-        dequeues = c.did deq (Deq late.value) first late.dequeues;
+        dequeues = c.did deq (Dequeue late.value) first late.dequeues;
         enqueues = elim late.enqueues [
-          | inl refused ↦ inl (c.did e (Not late.value) taken_e refused)
-          | inr accepted ↦ inr (c.did e (Enq late.value) taken_e accepted.0, c.precedes deq e first taken_e accepted.1)
+          | inl failed ↦ inl (c.did e (EnqueueFailed late.value) taken_e failed)
+          | inr accepted ↦ inr (c.did e (Enqueue late.value) taken_e accepted.0, c.precedes deq e first taken_e accepted.1)
         ];
       })
   violation_carried (repeat enq first second) taken is =
       let sooner = taken first (1, omega arith, refl) in let later = taken second (2, omega arith, refl) in record {
         value = is.value;
-        enqueues = c.did enq (Enq is.value) (taken enq (zero, omega arith, refl)) is.enqueues;
-        dequeues = c.did first (Deq is.value) sooner is.dequeues;
-        dequeues_again = c.did second (Deq is.value) later is.dequeues_again;
+        enqueues = c.did enq (Enqueue is.value) (taken enq (zero, omega arith, refl)) is.enqueues;
+        dequeues = c.did first (Dequeue is.value) sooner is.dequeues;
+        dequeues_again = c.did second (Dequeue is.value) later is.dequeues_again;
         in_order = c.in_turn first second sooner later is.in_order;
       }
   violation_carried (order a b) taken is =
@@ -179,7 +179,7 @@ module _ {from to : List Operation} {g : Operation → Operation} {IsTaken : Ope
       }
   violation_carried (witness empty cover) taken is =
       let first = taken empty (zero, omega arith, refl) in record {
-        answers_empty = c.did empty Empty first is.answers_empty;
+        answers_empty = c.did empty DequeueEmpty first is.answers_empty;
         covers = cover_carried empty (Some empty) cover first
             (λ o at. elim (contains_cons empty [] o at) [ inl same ↦ subst IsTaken same first | inr none ↦ absurd (not_in_none o none) ])
             (λ o at. taken o (one_deeper empty (flat_map operations_of_life cover) o at)) is.covers;

@@ -1,13 +1,13 @@
 -- Lines of a history stand for operations of its timeline, and show a violation if and only if these are one.
 use Rattle.verdicts.proofs.Common.{[], AllZip, answers, ap}
 use Rattle.verdicts.proofs.Common.{AreComplete, arith, call_or_never, ClaimLine, Contains, Contains-append_left}
-use Rattle.verdicts.proofs.Common.{Contains-append_right, contains_at, CoversFrom, Deq, dequeue_call, dequeue_of}
-use Rattle.verdicts.proofs.Common.{dequeued_if_called, dequeues, Did, did_dequeue, Empty, Enq, enqueue_of}
+use Rattle.verdicts.proofs.Common.{Contains-append_right, contains_at, CoversFrom, Dequeue, dequeue_call, dequeue_of}
+use Rattle.verdicts.proofs.Common.{dequeued_if_called, dequeues, Did, did_dequeue, DequeueEmpty, Enqueue, enqueue_of}
 use Rattle.verdicts.proofs.Common.{enqueue_return, enqueue_stands, flat_map, fresh, FullViolation, initial_enqueue}
 use Rattle.verdicts.proofs.Common.{initial_enqueues, initial_time, inl, inr, IsLife, IsOrderViolation, IsViolationOf}
 use Rattle.verdicts.proofs.Common.{kind_of, later_by, LeavesAfter, length, Life, LineDid, LinePrecedes, lines_of}
 use Rattle.verdicts.proofs.Common.{LinesCover, List, map, mapped_to, MatchOption, MAX_INITIAL, NEVER}
-use Rattle.verdicts.proofs.Common.{NoLineDid, None, NoneDid, Not, on, Operation, operations_of_life, OpKind, Option}
+use Rattle.verdicts.proofs.Common.{NoLineDid, None, NoneDid, EnqueueFailed, on, Operation, operations_of_life, OpKind, Option}
 use Rattle.verdicts.proofs.Common.{option_to_list, order, ORIGIN, place_of, refl, repeat, return_or_never}
 use Rattle.verdicts.proofs.Common.{ReturnsFirst, same_enqueue, Shows, slice_get, slice_get_within, Some, subst, sym}
 use Rattle.verdicts.proofs.Common.{timeline, timeline_at, VFresh, ViolationKind, VOrd, VRepeat, VWit, witness, ℕ, ◌++◌}
@@ -99,11 +99,11 @@ module _ (initial : List ℕ) (operations : List Operation) (few : length initia
 
   -- dequeues return in the order of their lines
   returns_exactly : (l m : ClaimLine) (o p : Operation) (v w : ℕ) → StandsFor initial operations l o → StandsFor initial operations m p
-      → o.kind ≡ Deq v → p.kind ≡ Deq w → (o.ret < p.ret) ↔ ReturnsFirst l m
+      → o.kind ≡ Dequeue v → p.kind ≡ Dequeue w → (o.ret < p.ret) ↔ ReturnsFirst l m
   returns_exactly l m o p v w (in_o, is_l) (in_p, is_m) dequeues dequeues' = both (line_told o in_o) (line_told p in_p)
     where
-      no_dequeue : (x : Operation) (u : ℕ) → IsInitialLine x → x.kind ≡ Deq u → ⊥
-      no_dequeue x u early is = let clash : Enq early.value ≡ Deq u = ap (λ (y : Operation). y.kind) early.is ∙ is in cc
+      no_dequeue : (x : Operation) (u : ℕ) → IsInitialLine x → x.kind ≡ Dequeue u → ⊥
+      no_dequeue x u early is = let clash : Enqueue early.value ≡ Dequeue u = ap (λ (y : Operation). y.kind) early.is ∙ is in cc
 
       both : IsInitialLine o ⊎ IsOperationLine o → IsInitialLine p ⊎ IsOperationLine p → (o.ret < p.ret) ↔ ReturnsFirst l m
       both (inl early) _ = absurd (no_dequeue o v early dequeues)
@@ -144,10 +144,10 @@ module _ (initial : List ℕ) (operations : List Operation) (few : length initia
   AreFor lines listed = AllZip (StandsFor initial operations) lines listed
 
   leaves_after : (line : ClaimLine) (o : Operation) (v : ℕ) (d : Option Operation) (lines : List ClaimLine) → StandsFor initial operations line o
-      → MatchOption d (NoneDid all (Deq v)) (λ x. Did all x (Deq v)) → o.ret < call_or_never d → AreFor lines (option_to_list d)
+      → MatchOption d (NoneDid all (Dequeue v)) (λ x. Did all x (Dequeue v)) → o.ret < call_or_never d → AreFor lines (option_to_list d)
       → LeavesAfter initial operations line v lines
-  leaves_after line o v None [] at none later each = (none_exactly (Deq v)).0 none
-  leaves_after line o v (Some d) (l ∷ []) at did later each = (line_did l d (Deq v) each.0 did.1, line_precedes line l o d at each.0 later)
+  leaves_after line o v None [] at none later each = (none_exactly (Dequeue v)).0 none
+  leaves_after line o v (Some d) (l ∷ []) at did later each = (line_did l d (Dequeue v) each.0 did.1, line_precedes line l o d at each.0 later)
   leaves_after line o v None (l ∷ lines) at none later each = absurd each
   leaves_after line o v (Some d) [] at did later each = absurd each
   leaves_after line o v (Some d) (l ∷ m ∷ lines) at did later each = absurd each.1
@@ -159,14 +159,14 @@ module _ (initial : List ℕ) (operations : List Operation) (few : length initia
       named d dequeues (did_dequeue all b d is.is_b dequeues).1 lines (subst (λ o. AreFor lines (enqueue_of a ∷ enqueue_of b
       ∷ (option_to_list o ++ option_to_list (dequeue_of a)))) dequeues each)
     where
-      named : (d : Operation) → dequeue_of b ≡ Some d → d.kind ≡ Deq is.is_b.0 → (lines : List ClaimLine)
+      named : (d : Operation) → dequeue_of b ≡ Some d → d.kind ≡ Dequeue is.is_b.0 → (lines : List ClaimLine)
           → AreFor lines (enqueue_of a ∷ enqueue_of b ∷ d ∷ option_to_list (dequeue_of a)) → Shows initial operations VOrd lines
       named d dequeues kind (l ∷ m ∷ n ∷ rest) each = (
         is.is_a.0,
         is.is_b.0,
-        line_did l (enqueue_of a) (Enq is.is_a.0) each.0 is.is_a.1.1,
-        line_did m (enqueue_of b) (Enq is.is_b.0) each.1.0 is.is_b.1.1,
-        line_did n d (Deq is.is_b.0) each.1.1.0 kind,
+        line_did l (enqueue_of a) (Enqueue is.is_a.0) each.0 is.is_a.1.1,
+        line_did m (enqueue_of b) (Enqueue is.is_b.0) each.1.0 is.is_b.1.1,
+        line_did n d (Dequeue is.is_b.0) each.1.1.0 kind,
         line_precedes l m (enqueue_of a) (enqueue_of b) each.0 each.1.0 is.overtakes.0,
         leaves_after n d is.is_a.0 (dequeue_of a) rest each.1.1.0 is.is_a.2 (omega (arith, is.overtakes.1, ap return_or_never dequeues)) each.1.1.1,
       )
@@ -180,16 +180,16 @@ module _ (initial : List ℕ) (operations : List Operation) (few : length initia
   cover_shows empty line o before frontier [] lines at_o at same each covers = absurd covers
   cover_shows empty line o before frontier (life ∷ []) lines at_o at same each covers = ends (dequeue_of life) covers.0.2 covers.2 lines each
     where
-      ends : (d : Option Operation) → MatchOption d (NoneDid all (Deq covers.0.0)) (λ x. Did all x (Deq covers.0.0)) → o.ret < call_or_never d
+      ends : (d : Option Operation) → MatchOption d (NoneDid all (Dequeue covers.0.0)) (λ x. Did all x (Dequeue covers.0.0)) → o.ret < call_or_never d
           → (lines : List ClaimLine) → AreFor lines (enqueue_of life ∷ (option_to_list d ++ [])) → LinesCover initial operations empty line lines
       ends None none later (l ∷ []) each = (
         covers.0.0,
-        (line_did l (enqueue_of life) (Enq covers.0.0) each.0 covers.0.1.1, line_precedes l line (enqueue_of life) before each.0 at (omega (arith, covers.1))),
+        (line_did l (enqueue_of life) (Enqueue covers.0.0) each.0 covers.0.1.1, line_precedes l line (enqueue_of life) before each.0 at (omega (arith, covers.1))),
         leaves_after empty o covers.0.0 None [] at_o none later tt,
       )
       ends (Some d) did later (l ∷ m ∷ []) each = (
         covers.0.0,
-        (line_did l (enqueue_of life) (Enq covers.0.0) each.0 covers.0.1.1, line_precedes l line (enqueue_of life) before each.0 at (omega (arith, covers.1))),
+        (line_did l (enqueue_of life) (Enqueue covers.0.0) each.0 covers.0.1.1, line_precedes l line (enqueue_of life) before each.0 at (omega (arith, covers.1))),
         leaves_after empty o covers.0.0 (Some d) (m ∷ []) at_o did later each.1,
       )
       ends None none later [] each = absurd each
@@ -203,14 +203,14 @@ module _ (initial : List ℕ) (operations : List Operation) (few : length initia
       (subst (λ x. AreFor lines (enqueue_of life ∷ (option_to_list x ++ flat_map operations_of_life (next ∷ rest)))) dequeues each)
       (λ m later at_m each'. cover_shows empty m o d (dequeue_call life) (next ∷ rest) later at_o at_m (sym (ap call_or_never dequeues)) each' covers.3)
     where
-      goes_on : (d : Operation) → d.kind ≡ Deq covers.0.0 → (lines : List ClaimLine)
+      goes_on : (d : Operation) → d.kind ≡ Dequeue covers.0.0 → (lines : List ClaimLine)
           → AreFor lines (enqueue_of life ∷ d ∷ flat_map operations_of_life (next ∷ rest))
           → ((m : ClaimLine) (later : List ClaimLine) → StandsFor initial operations m d → AreFor later (flat_map operations_of_life (next ∷ rest))
           → LinesCover initial operations empty m later) → LinesCover initial operations empty line lines
       goes_on d kind (l ∷ m ∷ n ∷ lines) each more = (
         covers.0.0,
-        (line_did l (enqueue_of life) (Enq covers.0.0) each.0 covers.0.1.1, line_precedes l line (enqueue_of life) before each.0 at (omega (arith, covers.1))),
-        line_did m d (Deq covers.0.0) each.1.0 kind,
+        (line_did l (enqueue_of life) (Enqueue covers.0.0) each.0 covers.0.1.1, line_precedes l line (enqueue_of life) before each.0 at (omega (arith, covers.1))),
+        line_did m d (Dequeue covers.0.0) each.1.0 kind,
         more m (n ∷ lines) each.1.0 each.1.1,
       )
       goes_on d kind [] each more = absurd each
@@ -222,28 +222,28 @@ module _ (initial : List ℕ) (operations : List Operation) (few : length initia
       → Shows initial operations (kind_of full) lines
   violation_shows (fresh d None) (l ∷ []) each is = (
     is.value,
-    line_did l d (Deq is.value) each.0 is.dequeues.1,
-    (none_exactly (Enq is.value)).0 (λ o among did. is.not_accepted o (among, did)),
-    (none_exactly (Not is.value)).0 is.not_refused,
+    line_did l d (Dequeue is.value) each.0 is.dequeues.1,
+    (none_exactly (Enqueue is.value)).0 (λ o among did. is.not_accepted o (among, did)),
+    (none_exactly (EnqueueFailed is.value)).0 is.not_failed,
   )
   violation_shows (fresh d (Some e)) (l ∷ m ∷ []) each is = (
     is.value,
-    line_did l d (Deq is.value) each.0 is.dequeues.1,
+    line_did l d (Dequeue is.value) each.0 is.dequeues.1,
     elim is.enqueues [
-      | inl refused ↦ inl (line_did m e (Not is.value) each.1.0 refused.1)
-      | inr late ↦ inr (line_did m e (Enq is.value) each.1.0 late.0.1, line_precedes l m d e each.0 each.1.0 late.1)
+      | inl failed ↦ inl (line_did m e (EnqueueFailed is.value) each.1.0 failed.1)
+      | inr late ↦ inr (line_did m e (Enqueue is.value) each.1.0 late.0.1, line_precedes l m d e each.0 each.1.0 late.1)
     ],
   )
   violation_shows (repeat x y z) (l ∷ m ∷ n ∷ []) each is = (
     is.value,
-    line_did l x (Enq is.value) each.0 is.enqueues.1,
-    line_did m y (Deq is.value) each.1.0 is.dequeues.1,
-    line_did n z (Deq is.value) each.1.1.0 is.dequeues_again.1,
+    line_did l x (Enqueue is.value) each.0 is.enqueues.1,
+    line_did m y (Dequeue is.value) each.1.0 is.dequeues.1,
+    line_did n z (Dequeue is.value) each.1.1.0 is.dequeues_again.1,
     (returns_exactly m n y z is.value is.value each.1.0 each.1.1.0 is.dequeues.1 is.dequeues_again.1).0 is.in_order,
   )
   violation_shows (order a b) lines each is = order_shows a b lines each is
   violation_shows (witness o cover) (l ∷ lines) each is =
-      (line_did l o Empty each.0 is.answers_empty.1, cover_shows l l o o o.call cover lines each.0 each.0 refl each.1 is.covers)
+      (line_did l o DequeueEmpty each.0 is.answers_empty.1, cover_shows l l o o o.call cover lines each.0 each.0 refl each.1 is.covers)
   violation_shows (fresh d None) [] each is = absurd each
   violation_shows (fresh d None) (l ∷ m ∷ lines) each is = absurd each.1
   violation_shows (fresh d (Some e)) [] each is = absurd each
@@ -302,11 +302,11 @@ module _ (initial : List ℕ) (operations : List Operation) (few : length initia
     -- the dequeue of a value, or none
     dequeue_shown : (line : ClaimLine) (o : Operation) (v : ℕ) (lines : List ClaimLine) → StandsFor initial operations line o
         → LeavesAfter initial operations line v lines
-        → (d : Option Operation) × AreFor lines (option_to_list d) × MatchOption d (NoneDid all (Deq v)) (λ x. Did all x (Deq v))
+        → (d : Option Operation) × AreFor lines (option_to_list d) × MatchOption d (NoneDid all (Dequeue v)) (λ x. Did all x (Dequeue v))
         × (o.ret < call_or_never d)
-    dequeue_shown line o v [] at none = (None, tt, (none_exactly (Deq v)).1 none, (times_in_range all o complete at.0).1)
+    dequeue_shown line o v [] at none = (None, tt, (none_exactly (Dequeue v)).1 none, (times_in_range all o complete at.0).1)
     dequeue_shown line o v (l ∷ []) at (did, before) =
-        let (d, at_d, is) = stood_for l (Deq v) did in (Some d, (at_d, tt), (at_d.0, is), precedes_line line l o d at at_d before)
+        let (d, at_d, is) = stood_for l (Dequeue v) did in (Some d, (at_d, tt), (at_d.0, is), precedes_line line l o d at at_d before)
     dequeue_shown line o v (l ∷ m ∷ lines) at leaves = absurd leaves
 
     cover_shown : (empty line : ClaimLine) (o before : Operation) (frontier : ℕ) (lines : List ClaimLine) → StandsFor initial operations empty o
@@ -314,21 +314,21 @@ module _ (initial : List ℕ) (operations : List Operation) (few : length initia
         → (cover : List Life) × AreFor lines (flat_map operations_of_life cover) × CoversFrom (on all) o frontier cover
     cover_shown empty line o before frontier [] at_o at same covers = absurd covers
     cover_shown empty line o before frontier (l ∷ []) at_o at same (v, enters, leaves) =
-        let (e, at_e, is) = stood_for l (Enq v) enters.0 in (
+        let (e, at_e, is) = stood_for l (Enqueue v) enters.0 in (
           record { enqueue = e; dequeue = None } ∷ [],
           (at_e, tt),
-          ((v, (at_e.0, is), (none_exactly (Deq v)).1 leaves), omega (arith, precedes_line l line e before at_e at enters.1), (times_in_range all o complete at_o.0).1),
+          ((v, (at_e.0, is), (none_exactly (Dequeue v)).1 leaves), omega (arith, precedes_line l line e before at_e at enters.1), (times_in_range all o complete at_o.0).1),
         )
     cover_shown empty line o before frontier (l ∷ m ∷ []) at_o at same (v, enters, (did, later)) =
-        let (e, at_e, is) = stood_for l (Enq v) enters.0 in
-        let (d, at_d, is_d) = stood_for m (Deq v) did in (
+        let (e, at_e, is) = stood_for l (Enqueue v) enters.0 in
+        let (d, at_d, is_d) = stood_for m (Dequeue v) did in (
           record { enqueue = e; dequeue = Some d } ∷ [],
           (at_e, (at_d, tt)),
           ((v, (at_e.0, is), (at_d.0, is_d)), omega (arith, precedes_line l line e before at_e at enters.1), precedes_line empty m o d at_o at_d later),
         )
     cover_shown empty line o before frontier (l ∷ m ∷ n ∷ lines) at_o at same (v, enters, did, covers) =
-        let (e, at_e, is) = stood_for l (Enq v) enters.0 in
-        let (d, at_d, is_d) = stood_for m (Deq v) did in
+        let (e, at_e, is) = stood_for l (Enqueue v) enters.0 in
+        let (d, at_d, is_d) = stood_for m (Dequeue v) did in
         let (cover, each, rest) = cover_shown empty m o d d.call (n ∷ lines) at_o at_d refl covers in (
           record { enqueue = e; dequeue = Some d } ∷ cover,
           (at_e, (at_d, each)),
@@ -343,38 +343,38 @@ module _ (initial : List ℕ) (operations : List Operation) (few : length initia
 
     -- lines that show a violation are the lines of one
     pub shown_violation : (kind : ViolationKind) (lines : List ClaimLine) → Shows initial operations kind lines → IsShown kind lines
-    shown_violation VFresh (l ∷ []) (v, did, not_accepted, not_refused) =
-        let (d, at, is) = stood_for l (Deq v) did in record {
+    shown_violation VFresh (l ∷ []) (v, did, not_accepted, not_failed) =
+        let (d, at, is) = stood_for l (Dequeue v) did in record {
           full = fresh d None;
           same_kind = refl;
           each = (at, tt);
           violates = record {
             value = v;
             dequeues = (at.0, is);
-            not_accepted = λ o did. (none_exactly (Enq v)).1 not_accepted o did.0 did.1;
-            not_refused = (none_exactly (Not v)).1 not_refused;
+            not_accepted = λ o did. (none_exactly (Enqueue v)).1 not_accepted o did.0 did.1;
+            not_failed = (none_exactly (EnqueueFailed v)).1 not_failed;
           };
         }
-    shown_violation VFresh (l ∷ m ∷ []) (v, did, inl refused) =
-        let (d, at, is) = stood_for l (Deq v) did in
-        let (e, at_e, is_e) = stood_for m (Not v) refused in record {
+    shown_violation VFresh (l ∷ m ∷ []) (v, did, inl failed) =
+        let (d, at, is) = stood_for l (Dequeue v) did in
+        let (e, at_e, is_e) = stood_for m (EnqueueFailed v) failed in record {
           full = fresh d (Some e);
           same_kind = refl;
           each = (at, (at_e, tt));
           violates = record { value = v; dequeues = (at.0, is); enqueues = inl (at_e.0, is_e) };
         }
     shown_violation VFresh (l ∷ m ∷ []) (v, did, inr late) =
-        let (d, at, is) = stood_for l (Deq v) did in
-        let (e, at_e, is_e) = stood_for m (Enq v) late.0 in record {
+        let (d, at, is) = stood_for l (Dequeue v) did in
+        let (e, at_e, is_e) = stood_for m (Enqueue v) late.0 in record {
           full = fresh d (Some e);
           same_kind = refl;
           each = (at, (at_e, tt));
           violates = record { value = v; dequeues = (at.0, is); enqueues = inr ((at_e.0, is_e), precedes_line l m d e at at_e late.1) };
         }
     shown_violation VRepeat (l ∷ m ∷ n ∷ []) (v, enqueues, dequeues, again, in_order) =
-        let (x, at_x, is_x) = stood_for l (Enq v) enqueues in
-        let (y, at_y, is_y) = stood_for m (Deq v) dequeues in
-        let (z, at_z, is_z) = stood_for n (Deq v) again in record {
+        let (x, at_x, is_x) = stood_for l (Enqueue v) enqueues in
+        let (y, at_y, is_y) = stood_for m (Dequeue v) dequeues in
+        let (z, at_z, is_z) = stood_for n (Dequeue v) again in record {
           full = repeat x y z;
           same_kind = refl;
           each = (at_x, (at_y, (at_z, tt)));
@@ -387,9 +387,9 @@ module _ (initial : List ℕ) (operations : List Operation) (few : length initia
           };
         }
     shown_violation VOrd (l ∷ m ∷ n ∷ rest) (v, w, enqueues, enqueues', dequeues, before, leaves) =
-        let (x, at_x, is_x) = stood_for l (Enq v) enqueues in
-        let (y, at_y, is_y) = stood_for m (Enq w) enqueues' in
-        let (d, at_d, is_d) = stood_for n (Deq w) dequeues in
+        let (x, at_x, is_x) = stood_for l (Enqueue v) enqueues in
+        let (y, at_y, is_y) = stood_for m (Enqueue w) enqueues' in
+        let (d, at_d, is_d) = stood_for n (Dequeue w) dequeues in
         let (c, each, ends, later) = dequeue_shown n d v rest at_d leaves in record {
           full = order (record { enqueue = x; dequeue = c }) (record { enqueue = y; dequeue = Some d });
           same_kind = refl;
@@ -402,7 +402,7 @@ module _ (initial : List ℕ) (operations : List Operation) (few : length initia
           };
         }
     shown_violation VWit (l ∷ lines) (answers, covers) =
-        let (o, at, is) = stood_for l Empty answers in
+        let (o, at, is) = stood_for l DequeueEmpty answers in
         let (cover, each, covers') = cover_shown l l o o o.call lines at at refl covers in record {
           full = witness o cover;
           same_kind = refl;

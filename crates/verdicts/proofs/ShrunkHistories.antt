@@ -3,7 +3,7 @@
 use Rattle.verdicts.proofs.Common.{ap, AreComplete, AreLinearizable, ArePartOf, arith, Bool, call_by_return, call_in}
 use Rattle.verdicts.proofs.Common.{cases_lt, chosen_of, ClaimLine, Contains, Contains-append_cases}
 use Rattle.verdicts.proofs.Common.{Contains-append_left, Contains-append_right, Contents, contents_of, Course, course}
-use Rattle.verdicts.proofs.Common.{course_on, Enq, enqueue_place, enqueue_stands, Event, false, filter, filter_agree}
+use Rattle.verdicts.proofs.Common.{course_on, Enqueue, enqueue_place, enqueue_stands, Event, false, filter, filter_agree}
 use Rattle.verdicts.proofs.Common.{FullViolation, HistoryView, holds_ticket, initial_enqueue, initial_enqueues, inl}
 use Rattle.verdicts.proofs.Common.{inr, IsChosenFullViolation, IsChosenViolation, IsCompleteFrom, IsMinimal}
 use Rattle.verdicts.proofs.Common.{IsViolationOf, keeps, KeepsViolation, kept, later_by, length, line_at, lines_of}
@@ -13,7 +13,7 @@ use Rattle.verdicts.proofs.Common.{passed_filter, place_of, refl, same_call, sel
 use Rattle.verdicts.proofs.Common.{StaysChosen, subst, sym, timeline, timeline_is_complete, true, value_in, value_of}
 use Rattle.verdicts.proofs.Common.{Violation, violation_lines, violation_places, ViolationKind, ℕ, ◌+◌, ◌-◌, ◌<◌, ◌∙◌}
 use Rattle.verdicts.proofs.Common.{◌≡◌, ◌≢◌, ◌≤◌, ◌⊎◌}
-use Rattle.value_match.proofs.ToldPlaces.{course_back}
+use Rattle.value_match.proofs.HistoryPlaces.{course_back}
 use Rattle.verdicts.proofs.Chosen.{chosen_is_violation}
 use Rattle.verdicts.proofs.Selections.{filters_swap, kept_is_complete_from, kept_timeline_are_complete, mapped_kind}
 use Rattle.history_merge.proofs.Lists.{no_longer}
@@ -53,7 +53,7 @@ timeline_is_whole history is = timeline_is_complete history.initial history.even
 
 -- an operation called before the time of ticket 0 is a successful enqueue
 pub among_enqueues : (whole : HistoryView) (o : Operation) → Contains (timeline_of_history whole) o → o.call < ORIGIN
-    → (v : ℕ) × (o.kind ≡ Enq v)
+    → (v : ℕ) × (o.kind ≡ Enqueue v)
 among_enqueues whole o among early =
     elim (Contains-append_cases (initial_enqueues whole.initial) (map (later_by ORIGIN) (operations_of whole.events)) o among) [
       | inl here ↦ let found = enqueue_place whole.initial o here in (found.1, sym (ap (λ (x : Operation). x.kind) found.3))

@@ -127,7 +127,7 @@ no_is_decided initial operations violation is_history chosen =
 pub refused_is_decided : (initial : List ℕ) (operations : List Operation) (answer : Matched) (violation : Violation)
     → IsOfHistory initial operations → IsMatched initial operations answer
     → (answer ≡ matched.Fresh violation) ⊎ (answer ≡ matched.Repeat violation) → IsDecided initial operations (found.No violation)
-refused_is_decided initial operations answer violation is_history is refused = no_is_decided initial operations violation is_history (elim refused [
+refused_is_decided initial operations answer violation is_history is failed = no_is_decided initial operations violation is_history (elim failed [
   | inl same ↦ let h = subst (IsMatched initial operations) same is in (fresh h.0 h.1, h.2, h.3)
   | inr same ↦ let h = subst (IsMatched initial operations) same is in (repeat h.0 h.1 h.2, h.3, h.4)
 ])

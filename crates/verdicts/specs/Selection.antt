@@ -3,7 +3,7 @@ use Rattle.std.specs.Prelude.{◌≡◌, ◌≢◌, ℕ, ◌≤◌, Bool, List, 
 use Rattle.std.specs.Option.{option_map_or}
 use Rattle.history_merge.specs.declared.operation.Operation.{Operation}
 use Rattle.history_merge.specs.declared.operation.OpKind.{OpKind}
-use Rattle.history_merge.specs.declared.operation.OpKind.TheVariants.{Enq, Deq, Empty, Not}
+use Rattle.history_merge.specs.declared.operation.OpKind.TheVariants.{Enqueue, Dequeue, DequeueEmpty, EnqueueFailed}
 use Rattle.history_merge.specs.Initial.{Contents, HistoryView}
 use Rattle.history_merge.specs.Legal.{IsLinearizable}
 use Rattle.history_merge.specs.Operations.{operations_of}
@@ -18,10 +18,10 @@ use Rattle.claims.specs.Claiming.{claim_of, lines_of_history, violation_lines}
 
 -- the value of an operation; an empty dequeue has none
 abbrev pub value_of : OpKind → Option ℕ
-value_of (Enq v) = Some v
-value_of (Deq v) = Some v
-value_of (Not v) = Some v
-value_of Empty = None
+value_of (Enqueue v) = Some v
+value_of (Dequeue v) = Some v
+value_of (EnqueueFailed v) = Some v
+value_of DequeueEmpty = None
 
 -- whether an operation is selected: by its value, or an empty dequeue by its call ticket
 abbrev pub selects : (ℕ → Bool) → (ℕ → Bool) → Operation → Bool

@@ -104,10 +104,10 @@ fn takes(queue: &mut VecDeque<u64>, kind: OpKind) -> Result<bool, AllocError>
         (accept queue.old.items kind ≡ None)) }
 {
     match kind {
-        OpKind::Enq(value) => queue.push_back(value)?,
-        OpKind::Not(_) => {}
-        OpKind::Deq(value) => return Ok(queue.pop_front() == Some(value)),
-        OpKind::Empty => return Ok(queue.is_empty()),
+        OpKind::Enqueue(value) => queue.push_back(value)?,
+        OpKind::EnqueueFailed(_) => {}
+        OpKind::Dequeue(value) => return Ok(queue.pop_front() == Some(value)),
+        OpKind::DequeueEmpty => return Ok(queue.is_empty()),
     }
     Ok(true)
 }

@@ -1,5 +1,5 @@
 ghost use Rattle.std.specs.Prelude.{◌≡◌, ◌↔◌, ◌⊎◌, ℕ, IsTrue};
-ghost use Rattle.history_merge.specs.declared.operation.OpKind.TheVariants.{Deq, Enq, Not};
+ghost use Rattle.history_merge.specs.declared.operation.OpKind.TheVariants.{Dequeue, Enqueue, EnqueueFailed};
 ghost use Rattle.history_merge.specs.Operations.{operations_of};
 ghost use Rattle.verdicts.specs.Inner.Claims.{dequeued_by, enqueued_by};
 ghost use Rattle.claims.specs.Showing.{EnqueuedBefore, LeavesAfter, LineDid, LinePrecedes, LinesCover, NoLineDid};
@@ -27,7 +27,7 @@ fn dequeued_by(line: ClaimLine) -> Option<u64>
 {
     match line {
         ClaimLine::Op(operation) => match operation.kind {
-            OpKind::Deq(value) => Some(value),
+            OpKind::Dequeue(value) => Some(value),
             _ => None,
         },
         ClaimLine::Initial(_) => None,
@@ -40,7 +40,7 @@ fn enqueued_by(line: ClaimLine) -> Option<u64>
 {
     match line {
         ClaimLine::Op(operation) => match operation.kind {
-            OpKind::Enq(value) => Some(value),
+            OpKind::Enqueue(value) => Some(value),
             _ => None,
         },
         ClaimLine::Initial(value) => Some(value),
@@ -65,24 +65,24 @@ fn shows_fresh(history: &History, lines: &[ClaimLine]) -> bool
 }
 
 fn is_never_enqueued(history: &History, deq: ClaimLine, value: u64) -> bool
-    ensures { IsTrue result ↔ (LineDid history.now.initial (operations_of history.now.events) deq (Deq value)
-        × NoLineDid history.now.initial (operations_of history.now.events) (Enq value)
-        × NoLineDid history.now.initial (operations_of history.now.events) (Not value)) }
+    ensures { IsTrue result ↔ (LineDid history.now.initial (operations_of history.now.events) deq (Dequeue value)
+        × NoLineDid history.now.initial (operations_of history.now.events) (Enqueue value)
+        × NoLineDid history.now.initial (operations_of history.now.events) (EnqueueFailed value)) }
 {
-    line_did(history, deq, OpKind::Deq(value))
-        && no_line_did(history, OpKind::Enq(value))
-        && no_line_did(history, OpKind::Not(value))
+    line_did(history, deq, OpKind::Dequeue(value))
+        && no_line_did(history, OpKind::Enqueue(value))
+        && no_line_did(history, OpKind::EnqueueFailed(value))
 }
 
 fn is_enqueued_too_late(history: &History, deq: ClaimLine, enq: ClaimLine, value: u64) -> bool
-    ensures { IsTrue result ↔ (LineDid history.now.initial (operations_of history.now.events) deq (Deq value)
-        × (LineDid history.now.initial (operations_of history.now.events) enq (Not value)
-        ⊎ (LineDid history.now.initial (operations_of history.now.events) enq (Enq value)
+    ensures { IsTrue result ↔ (LineDid history.now.initial (operations_of history.now.events) deq (Dequeue value)
+        × (LineDid history.now.initial (operations_of history.now.events) enq (EnqueueFailed value)
+        ⊎ (LineDid history.now.initial (operations_of history.now.events) enq (Enqueue value)
         × LinePrecedes history.now.initial deq enq))) }
 {
-    line_did(history, deq, OpKind::Deq(value))
-        && (line_did(history, enq, OpKind::Not(value))
-            || line_did(history, enq, OpKind::Enq(value)) && line_precedes(history, deq, enq))
+    line_did(history, deq, OpKind::Dequeue(value))
+        && (line_did(history, enq, OpKind::EnqueueFailed(value))
+            || line_did(history, enq, OpKind::Enqueue(value)) && line_precedes(history, deq, enq))
 }
 
 /// Returns whether the lines are an enqueue and two dequeues of its value.
@@ -105,14 +105,14 @@ fn is_repeat(
     second: ClaimLine,
     value: u64,
 ) -> bool
-    ensures { IsTrue result ↔ (LineDid history.now.initial (operations_of history.now.events) enq (Enq value)
-        × LineDid history.now.initial (operations_of history.now.events) first (Deq value)
-        × LineDid history.now.initial (operations_of history.now.events) second (Deq value)
+    ensures { IsTrue result ↔ (LineDid history.now.initial (operations_of history.now.events) enq (Enqueue value)
+        × LineDid history.now.initial (operations_of history.now.events) first (Dequeue value)
+        × LineDid history.now.initial (operations_of history.now.events) second (Dequeue value)
         × ReturnsFirst first second) }
 {
-    line_did(history, enq, OpKind::Enq(value))
-        && line_did(history, first, OpKind::Deq(value))
-        && line_did(history, second, OpKind::Deq(value))
+    line_did(history, enq, OpKind::Enqueue(value))
+        && line_did(history, first, OpKind::Dequeue(value))
+        && line_did(history, second, OpKind::Dequeue(value))
         && returns_first(first, second)
 }
 
@@ -127,9 +127,9 @@ fn shows_order(history: &History, lines: &[ClaimLine]) -> bool
     let (Some(a), Some(b)) = (enqueued_by(*enq_a), enqueued_by(*enq_b)) else {
         return false;
     };
-    line_did(history, *enq_a, OpKind::Enq(a))
-        && line_did(history, *enq_b, OpKind::Enq(b))
-        && line_did(history, *deq_b, OpKind::Deq(b))
+    line_did(history, *enq_a, OpKind::Enqueue(a))
+        && line_did(history, *enq_b, OpKind::Enqueue(b))
+        && line_did(history, *deq_b, OpKind::Dequeue(b))
         && line_precedes(history, *enq_a, *enq_b)
         && leaves_after(history, *deq_b, a, deq_a)
 }
@@ -140,8 +140,9 @@ fn leaves_after(history: &History, line: ClaimLine, value: u64, deq: &[ClaimLine
     ensures { IsTrue result ↔ LeavesAfter history.now.initial (operations_of history.now.events) line value deq.now }
 {
     match deq {
-        [] => no_line_did(history, OpKind::Deq(value)),
-        [deq] => line_did(history, *deq, OpKind::Deq(value)) && line_precedes(history, line, *deq),
+        [] => no_line_did(history, OpKind::Dequeue(value)),
+        [deq] => line_did(history, *deq, OpKind::Dequeue(value))
+            && line_precedes(history, line, *deq),
         _ => false,
     }
 }
@@ -151,7 +152,7 @@ fn shows_witness(history: &History, lines: &[ClaimLine]) -> bool
     ensures { IsTrue result ↔ ShowsWitness history.now.initial (operations_of history.now.events) lines.now }
 {
     match lines {
-        [empty, cover @ ..] => line_did(history, *empty, OpKind::Empty)
+        [empty, cover @ ..] => line_did(history, *empty, OpKind::DequeueEmpty)
             && covers(history, *empty, cover),
         [] => false,
     }
@@ -185,11 +186,11 @@ fn covers(history: &History, empty: ClaimLine, lines: &[ClaimLine]) -> bool
 fn hands_over(history: &History, line: ClaimLine, enq: ClaimLine, deq: ClaimLine) -> bool
     ensures { IsTrue result
         ↔ ((v : ℕ) × EnqueuedBefore history.now.initial (operations_of history.now.events) line enq v
-        × LineDid history.now.initial (operations_of history.now.events) deq (Deq v)) }
+        × LineDid history.now.initial (operations_of history.now.events) deq (Dequeue v)) }
 {
     match enqueued_by(enq) {
         Some(value) => enters_before(history, line, enq, value)
-            && line_did(history, deq, OpKind::Deq(value)),
+            && line_did(history, deq, OpKind::Dequeue(value)),
         None => false,
     }
 }
@@ -197,5 +198,5 @@ fn hands_over(history: &History, line: ClaimLine, enq: ClaimLine, deq: ClaimLine
 fn enters_before(history: &History, line: ClaimLine, enq: ClaimLine, value: u64) -> bool
     ensures { IsTrue result ↔ EnqueuedBefore history.now.initial (operations_of history.now.events) line enq value }
 {
-    line_did(history, enq, OpKind::Enq(value)) && line_precedes(history, enq, line)
+    line_did(history, enq, OpKind::Enqueue(value)) && line_precedes(history, enq, line)
 }

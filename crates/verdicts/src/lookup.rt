@@ -15,7 +15,7 @@ pub(crate) fn line_did(history: &History, line: ClaimLine, kind: OpKind) -> bool
 {
     match line {
         ClaimLine::Op(operation) => operation.kind == kind && is_operation(history, operation),
-        ClaimLine::Initial(value) => kind == OpKind::Enq(value)
+        ClaimLine::Initial(value) => kind == OpKind::Enqueue(value)
             && is_among(history.initial(), value),
     }
 }

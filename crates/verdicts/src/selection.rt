@@ -89,8 +89,10 @@ fn value_of(kind: OpKind) -> Option<u64>
     ensures { result ≡ value_of kind }
 {
     match kind {
-        OpKind::Enq(value) | OpKind::Deq(value) | OpKind::Not(value) => Some(value),
-        OpKind::Empty => None,
+        OpKind::Enqueue(value) | OpKind::Dequeue(value) | OpKind::EnqueueFailed(value) => Some(
+            value,
+        ),
+        OpKind::DequeueEmpty => None,
     }
 }
 

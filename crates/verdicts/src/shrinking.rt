@@ -6,8 +6,8 @@ ghost use Rattle.verdicts.specs.Selection.{ArePartOf, HasShortestCover, IsMinima
 ghost use Rattle.verdicts.specs.Selection.{KeepsViolation, StaysChosen, contents_of};
 ghost use Rattle.value_match.specs.Outcome.{IsChosenViolation};
 
-use claims::violation_lines;
 use crate::selection::Selection;
+use claims::violation_lines;
 use event_records::Event;
 use history_merge::{History, history_from};
 use std::alloc::{AllocError, Global};

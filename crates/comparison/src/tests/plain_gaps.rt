@@ -110,7 +110,7 @@ fn free_gaps(
 ) -> Result<Vec<u64>, AllocError> {
     let mut gaps = Vec::new(alloc);
     for answer in operations.iter() {
-        if answer.kind != OpKind::Empty {
+        if answer.kind != OpKind::DequeueEmpty {
             continue;
         }
         if let Some(gap) = plain_gap(operations, values, &answer) {
@@ -125,7 +125,7 @@ fn first_covered(operations: &Operations, values: &[MatchedValue]) -> Option<(Op
     let mut first = None;
     let mut least = u64::MAX;
     for (place, answer) in (0..u32::MAX).zip(operations.iter()) {
-        let is_sooner = answer.kind == OpKind::Empty && answer.ret < least;
+        let is_sooner = answer.kind == OpKind::DequeueEmpty && answer.ret < least;
         if is_sooner && plain_gap(operations, values, &answer).is_none() {
             first = Some((OpId::new(place), answer));
             least = answer.ret;

@@ -130,9 +130,9 @@ fn place_others(
     let mut gaps = gaps.iter();
     for (place, operation) in (0..u32::MAX).zip(operations.iter()) {
         let gap = match operation.kind {
-            OpKind::Empty => gaps.next().copied(),
-            OpKind::Not(_) => Some(operation.call),
-            OpKind::Enq(_) | OpKind::Deq(_) => None,
+            OpKind::DequeueEmpty => gaps.next().copied(),
+            OpKind::EnqueueFailed(_) => Some(operation.call),
+            OpKind::Enqueue(_) | OpKind::Dequeue(_) => None,
         };
         if let Some(gap) = gap {
             placed.push(((time_of(gap), 1, operation.call), OpId::new(place)))?;

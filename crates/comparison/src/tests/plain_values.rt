@@ -26,7 +26,7 @@ fn initial_enqueue(left: usize, value: u64) -> Operation {
         call: time,
         ret: time,
         thread: 0,
-        kind: OpKind::Enq(value),
+        kind: OpKind::Enqueue(value),
     }
 }
 
@@ -46,7 +46,7 @@ fn plain_value(
         dequeue: None,
     };
     for (place, operation) in (0..u32::MAX).zip(operations.iter()) {
-        if operation.kind == OpKind::Deq(value) {
+        if operation.kind == OpKind::Dequeue(value) {
             plain.life.dequeue = Some(timed(operation));
             plain.dequeue = Some(OpId::new(place));
         }
@@ -66,7 +66,7 @@ pub(crate) fn plain_values(
         values.push(plain_value(&operations, Source::Initial(place), enqueue, *value))?;
     }
     for (place, operation) in (0..u32::MAX).zip(operations.iter()) {
-        if let OpKind::Enq(value) = operation.kind {
+        if let OpKind::Enqueue(value) = operation.kind {
             let source = Source::Enq(OpId::new(place));
             values.push(plain_value(&operations, source, timed(operation), value))?;
         }

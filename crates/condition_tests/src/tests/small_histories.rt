@@ -1,7 +1,7 @@
 //! Small histories.
 
 use event_records::{Event, MAX_EVENTS, MAX_INITIAL, What};
-use history_merge::OpKind::{Deq, Empty, Enq, Not};
+use history_merge::OpKind::{Dequeue, DequeueEmpty, Enqueue, EnqueueFailed};
 use history_merge::{History, OpKind, history_from};
 use std::alloc::{AllocError, Global};
 use std::test::Fail;
@@ -12,55 +12,55 @@ pub(crate) type Row = (u64, u64, u8, OpKind);
 /// The values of two threads overtake each other, but no thread's own values do. The history has a `VOrd`, but is
 /// locally linearizable.
 pub(crate) const OVERTAKING: &[Row] = &[
-    (0, 1, 0, Enq(7)),
-    (2, 3, 1, Enq(9)),
-    (4, 5, 2, Deq(9)),
-    (6, 7, 2, Deq(7)),
+    (0, 1, 0, Enqueue(7)),
+    (2, 3, 1, Enqueue(9)),
+    (4, 5, 2, Dequeue(9)),
+    (6, 7, 2, Dequeue(7)),
 ];
 
 /// Thread 2 enqueues 7 and then 8, and thread 1 enqueues 5 and then 6. The second value of each is dequeued first.
 pub(crate) const EACH_OVERTAKES: &[Row] = &[
-    (0, 1, 0, Enq(1)),
-    (2, 3, 2, Enq(7)),
-    (4, 5, 2, Enq(8)),
-    (6, 7, 1, Enq(5)),
-    (8, 9, 1, Enq(6)),
-    (10, 11, 0, Deq(8)),
-    (12, 13, 0, Deq(6)),
-    (14, 15, 3, Deq(5)),
+    (0, 1, 0, Enqueue(1)),
+    (2, 3, 2, Enqueue(7)),
+    (4, 5, 2, Enqueue(8)),
+    (6, 7, 1, Enqueue(5)),
+    (8, 9, 1, Enqueue(6)),
+    (10, 11, 0, Dequeue(8)),
+    (12, 13, 0, Dequeue(6)),
+    (14, 15, 3, Dequeue(5)),
 ];
 
 /// A dequeue finds the queue empty, though 7 is in it.
-pub(crate) const NOT_EMPTY: &[Row] = &[(0, 1, 0, Enq(7)), (2, 3, 1, Empty)];
+pub(crate) const NOT_EMPTY: &[Row] = &[(0, 1, 0, Enqueue(7)), (2, 3, 1, DequeueEmpty)];
 
 /// A dequeue of a value that nobody enqueued.
-pub(crate) const NEVER_ENQUEUED: &[Row] = &[(0, 1, 0, Enq(7)), (2, 3, 1, Deq(9))];
+pub(crate) const NEVER_ENQUEUED: &[Row] = &[(0, 1, 0, Enqueue(7)), (2, 3, 1, Dequeue(9))];
 
 /// A dequeue of a value whose enqueue failed.
-pub(crate) const FAILED: &[Row] = &[(0, 1, 5, Not(7)), (2, 3, 1, Deq(7))];
+pub(crate) const FAILED: &[Row] = &[(0, 1, 5, EnqueueFailed(7)), (2, 3, 1, Dequeue(7))];
 
 /// The initial value is dequeued after one that was enqueued later.
 pub(crate) const INITIAL_LAST: &[Row] = &[
-    (0, 1, 0, Enq(7)),
-    (2, 3, 1, Deq(7)),
-    (4, 5, 1, Deq(3)),
-    (6, 7, 1, Empty),
+    (0, 1, 0, Enqueue(7)),
+    (2, 3, 1, Dequeue(7)),
+    (4, 5, 1, Dequeue(3)),
+    (6, 7, 1, DequeueEmpty),
 ];
 
 /// The second initial value is dequeued first.
 pub(crate) const INITIAL_SWAPPED: &[Row] = &[
-    (0, 1, 0, Enq(7)),
-    (2, 3, 0, Deq(4)),
-    (4, 5, 0, Deq(3)),
+    (0, 1, 0, Enqueue(7)),
+    (2, 3, 0, Dequeue(4)),
+    (4, 5, 0, Dequeue(3)),
 ];
 
 /// Returns the call and the return of an operation.
 fn told(kind: OpKind) -> (What, What) {
     match kind {
-        Enq(value) => (What::CallEnq(value), What::RetEnq),
-        Not(value) => (What::CallEnq(value), What::RetNot),
-        Deq(value) => (What::CallDeq, What::RetDeq(value)),
-        Empty => (What::CallDeq, What::RetEmpty),
+        Enqueue(value) => (What::CallEnq(value), What::RetEnq),
+        EnqueueFailed(value) => (What::CallEnq(value), What::RetNot),
+        Dequeue(value) => (What::CallDeq, What::RetDeq(value)),
+        DequeueEmpty => (What::CallDeq, What::RetEmpty),
     }
 }
 

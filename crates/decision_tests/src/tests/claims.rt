@@ -1,7 +1,7 @@
 //! The claims of verdicts.
 
 use super::small_histories::{DEQUEUED_LATER, OVERLAPPING, Row, history_behind, is_row};
-use history_merge::OpKind::{Deq, Empty, Enq, Not};
+use history_merge::OpKind::{Dequeue, DequeueEmpty, Enqueue, EnqueueFailed};
 use history_merge::{History, Operation};
 use parallel_finders::MAX_PIECES;
 use std::alloc::AllocError;
@@ -101,27 +101,35 @@ static CLAIMS: [(&[Row], Option<ViolationKind>, &[Row]); 6] = [
         OVERLAPPING,
         None,
         &[
-            (1, 3, 1, Enq(9)),
-            (0, 2, 0, Enq(7)),
-            (4, 5, 0, Deq(9)),
-            (6, 7, 0, Deq(7)),
+            (1, 3, 1, Enqueue(9)),
+            (0, 2, 0, Enqueue(7)),
+            (4, 5, 0, Dequeue(9)),
+            (6, 7, 0, Dequeue(7)),
         ],
     ),
     (
-        &[(0, 1, 0, Not(7)), (2, 3, 0, Deq(7))],
+        &[(0, 1, 0, EnqueueFailed(7)), (2, 3, 0, Dequeue(7))],
         Some(VFresh),
-        &[(2, 3, 0, Deq(7)), (0, 1, 0, Not(7))],
+        &[(2, 3, 0, Dequeue(7)), (0, 1, 0, EnqueueFailed(7))],
     ),
     (
-        &[(0, 1, 0, Enq(7)), (2, 3, 0, Deq(7)), (4, 5, 0, Deq(7))],
+        &[
+            (0, 1, 0, Enqueue(7)),
+            (2, 3, 0, Dequeue(7)),
+            (4, 5, 0, Dequeue(7)),
+        ],
         Some(VRepeat),
-        &[(0, 1, 0, Enq(7)), (2, 3, 0, Deq(7)), (4, 5, 0, Deq(7))],
+        &[
+            (0, 1, 0, Enqueue(7)),
+            (2, 3, 0, Dequeue(7)),
+            (4, 5, 0, Dequeue(7)),
+        ],
     ),
     (DEQUEUED_LATER, Some(VOrd), DEQUEUED_LATER),
     (
-        &[(0, 1, 0, Enq(7)), (2, 9, 1, Empty)],
+        &[(0, 1, 0, Enqueue(7)), (2, 9, 1, DequeueEmpty)],
         Some(VWit),
-        &[(2, 9, 1, Empty), (0, 1, 0, Enq(7))],
+        &[(2, 9, 1, DequeueEmpty), (0, 1, 0, Enqueue(7))],
     ),
 ];
 

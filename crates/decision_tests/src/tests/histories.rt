@@ -3,7 +3,7 @@ ghost use Rattle.std.specs.Prelude.{◌≤◌, length, vec_len};
 
 use super::small_histories::{HIDDEN, OF_THREE, OF_TWO, OVERLAPPING, Row, are_rows, at, events_of};
 use event_records::{Event, Lists, MAX_EVENTS, MAX_INITIAL, What};
-use history_merge::OpKind::{Empty, Not};
+use history_merge::OpKind::{DequeueEmpty, EnqueueFailed};
 use history_merge::{Clash, History, HistoryBuilder, HistoryFault, history, history_from, merge};
 use std::alloc::{AllocError, Global};
 use std::test::Fail;
@@ -172,8 +172,13 @@ fn tickets_clash_that_do_not_rise(rt: HostRuntime) {
 
 /// A failed enqueue of the greatest value at the greatest tickets, and a dequeue that overlaps it.
 const GREATEST: &[Row] = &[
-    (999_999_999_996, 999_999_999_998, 63, Not(u64::MAX)),
-    (999_999_999_997, 999_999_999_999, 0, Empty),
+    (
+        999_999_999_996,
+        999_999_999_998,
+        63,
+        EnqueueFailed(u64::MAX),
+    ),
+    (999_999_999_997, 999_999_999_999, 0, DequeueEmpty),
 ];
 
 type Shown<'a> = (&'a [u64], &'a [Row]);

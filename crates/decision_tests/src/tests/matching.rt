@@ -4,7 +4,7 @@ use super::small_histories::{
 };
 use event_records::ORIGIN;
 use history_merge::OpId;
-use history_merge::OpKind::{Deq, Empty, Enq, Not};
+use history_merge::OpKind::{Dequeue, DequeueEmpty, Enqueue, EnqueueFailed};
 use std::alloc::Global;
 use std::test::Fail;
 use value_match::{
@@ -53,16 +53,16 @@ fn named_of(alloc: Global, rows: &[Row]) -> Result<Option<Named>, Fail> {
 /// Histories with a violation of the first two kinds, or with neither.
 static NAMED: [(&[Row], Option<Named>); 3] = [
     (
-        &[(0, 1, 0, Not(7)), (2, 3, 0, Deq(7))],
+        &[(0, 1, 0, EnqueueFailed(7)), (2, 3, 0, Dequeue(7))],
         Some((Some(0), 1, None)),
     ),
     // the first of three dequeues by call returns last
     (
         &[
-            (0, 1, 0, Enq(7)),
-            (2, 7, 0, Deq(7)),
-            (3, 4, 1, Deq(7)),
-            (5, 6, 2, Deq(7)),
+            (0, 1, 0, Enqueue(7)),
+            (2, 7, 0, Dequeue(7)),
+            (3, 4, 1, Dequeue(7)),
+            (5, 6, 2, Dequeue(7)),
         ],
         Some((Some(0), 2, Some(3))),
     ),
@@ -90,54 +90,58 @@ struct Shown {
     values: &'static [Accepted],
     /// The empty dequeues and the failed enqueues, by their places among the operations.
     empties: &'static [usize],
-    refused: &'static [usize],
+    failed: &'static [usize],
 }
 
 static SHOWN: [Shown; 4] = [
     Shown {
         initial: &[],
         rows: &[
-            (0, 4, 0, Enq(7)),
-            (1, 3, 1, Deq(7)),
-            (2, 5, 2, Enq(9)),
-            (6, 8, 0, Not(8)),
-            (7, 9, 1, Empty),
+            (0, 4, 0, Enqueue(7)),
+            (1, 3, 1, Dequeue(7)),
+            (2, 5, 2, Enqueue(9)),
+            (6, 8, 0, EnqueueFailed(8)),
+            (7, 9, 1, DequeueEmpty),
         ],
         entered: &[],
         values: &[(0, Some(1)), (2, None)],
         empties: &[4],
-        refused: &[3],
+        failed: &[3],
     },
     Shown {
         initial: &[5],
-        rows: &[(0, 1, 0, Deq(5)), (2, 3, 0, Empty), (4, 5, 0, Not(8))],
-        entered: &[(ORIGIN - 1, ORIGIN - 1, 0, Enq(5))],
+        rows: &[
+            (0, 1, 0, Dequeue(5)),
+            (2, 3, 0, DequeueEmpty),
+            (4, 5, 0, EnqueueFailed(8)),
+        ],
+        entered: &[(ORIGIN - 1, ORIGIN - 1, 0, Enqueue(5))],
         values: &[(INITIAL, Some(0))],
         empties: &[1],
-        refused: &[2],
+        failed: &[2],
     },
     Shown {
         initial: &[5, 6],
         rows: OF_TWO,
         entered: &[
-            (ORIGIN - 2, ORIGIN - 2, 0, Enq(5)),
-            (ORIGIN - 1, ORIGIN - 1, 0, Enq(6)),
+            (ORIGIN - 2, ORIGIN - 2, 0, Enqueue(5)),
+            (ORIGIN - 1, ORIGIN - 1, 0, Enqueue(6)),
         ],
         values: &[(INITIAL, Some(0)), (INITIAL + 1, None), (1, None)],
         empties: &[3],
-        refused: &[2],
+        failed: &[2],
     },
     Shown {
         initial: &[u64::MAX, 5, 0],
         rows: OF_THREE,
         entered: &[
-            (ORIGIN - 3, ORIGIN - 3, 0, Enq(u64::MAX)),
-            (ORIGIN - 2, ORIGIN - 2, 0, Enq(5)),
-            (ORIGIN - 1, ORIGIN - 1, 0, Enq(0)),
+            (ORIGIN - 3, ORIGIN - 3, 0, Enqueue(u64::MAX)),
+            (ORIGIN - 2, ORIGIN - 2, 0, Enqueue(5)),
+            (ORIGIN - 1, ORIGIN - 1, 0, Enqueue(0)),
         ],
         values: &[(INITIAL, Some(0)), (INITIAL + 1, None), (INITIAL + 2, None)],
         empties: &[],
-        refused: &[1],
+        failed: &[1],
     },
 ];
 
@@ -216,7 +220,7 @@ fn wrong_part(matching: &Matching, shown: &Shown) -> Option<&'static str> {
         Some("values")
     } else if !are_places(&matching.empties(), shown.empties) {
         Some("empty dequeues")
-    } else if !are_places(&matching.refused(), shown.refused) {
+    } else if !are_places(&matching.failed(), shown.failed) {
         Some("failed enqueues")
     } else {
         None
@@ -241,12 +245,12 @@ fn a_matching_shows_its_history(rt: HostRuntime) -> Result<(), Fail> {
 
 /// Four values, of which the last two enqueued stay.
 const STAYING: &[Row] = &[
-    (0, 2, 0, Enq(1)),
-    (1, 4, 1, Enq(2)),
-    (5, 8, 0, Enq(3)),
-    (6, 10, 1, Enq(4)),
-    (20, 21, 0, Deq(1)),
-    (30, 31, 0, Deq(2)),
+    (0, 2, 0, Enqueue(1)),
+    (1, 4, 1, Enqueue(2)),
+    (5, 8, 0, Enqueue(3)),
+    (6, 10, 1, Enqueue(4)),
+    (20, 21, 0, Dequeue(1)),
+    (30, 31, 0, Dequeue(2)),
 ];
 
 /// Limits, and the call of the enqueue of the value that stays longest among those whose enqueues returned before the

@@ -4,7 +4,7 @@ use super::small_histories::{
     history_behind, matching_of, number_of,
 };
 use empty_witness::{GapAnswer, WitnessAnswer, find_witness, gap_for};
-use history_merge::OpKind::{Deq, Empty, Enq};
+use history_merge::OpKind::{Dequeue, DequeueEmpty, Enqueue};
 use order_violation::{OrderPair, find_order};
 use parallel_finders::{
     MAX_PIECES, find_order_par, find_witness_par, order_in_pieces, witness_in_pieces,
@@ -139,40 +139,40 @@ fn wrong_way<R: AllocGlobal + Threads + Sync>(
 
 /// An empty dequeue that two of three values cover.
 const COVERED_BY_TWO: &[Row] = &[
-    (0, 1, 0, Enq(1)),
-    (2, 11, 1, Empty),
-    (3, 4, 0, Enq(2)),
-    (5, 6, 0, Enq(3)),
-    (7, 8, 0, Deq(1)),
-    (9, 10, 0, Deq(2)),
-    (12, 13, 0, Deq(3)),
+    (0, 1, 0, Enqueue(1)),
+    (2, 11, 1, DequeueEmpty),
+    (3, 4, 0, Enqueue(2)),
+    (5, 6, 0, Enqueue(3)),
+    (7, 8, 0, Dequeue(1)),
+    (9, 10, 0, Dequeue(2)),
+    (12, 13, 0, Dequeue(3)),
 ];
 
 /// Four empty dequeues, of which the first has a gap. Among the others, the third returns first.
 const THRICE_COVERED: &[Row] = &[
-    (0, 1, 3, Empty),
-    (2, 3, 0, Enq(1)),
-    (4, 11, 1, Empty),
-    (5, 6, 2, Empty),
-    (7, 10, 3, Empty),
+    (0, 1, 3, DequeueEmpty),
+    (2, 3, 0, Enqueue(1)),
+    (4, 11, 1, DequeueEmpty),
+    (5, 6, 2, DequeueEmpty),
+    (7, 10, 3, DequeueEmpty),
 ];
 
 /// Two pairs, of which the one of the later values comes first.
 const TWO_PAIRS: &[Row] = &[
-    (0, 1, 0, Enq(1)),
-    (2, 3, 0, Enq(2)),
-    (4, 5, 0, Enq(3)),
-    (6, 7, 0, Enq(4)),
-    (8, 9, 0, Deq(4)),
-    (10, 11, 0, Deq(2)),
+    (0, 1, 0, Enqueue(1)),
+    (2, 3, 0, Enqueue(2)),
+    (4, 5, 0, Enqueue(3)),
+    (6, 7, 0, Enqueue(4)),
+    (8, 9, 0, Dequeue(4)),
+    (10, 11, 0, Dequeue(2)),
 ];
 
 /// A value that overtakes two that are never dequeued. The first of these is named.
 const TWO_OVERTAKEN: &[Row] = &[
-    (0, 1, 0, Enq(5)),
-    (2, 3, 0, Enq(6)),
-    (4, 5, 0, Enq(7)),
-    (6, 7, 0, Deq(7)),
+    (0, 1, 0, Enqueue(5)),
+    (2, 3, 0, Enqueue(6)),
+    (4, 5, 0, Enqueue(7)),
+    (6, 7, 0, Dequeue(7)),
 ];
 
 /// Initial values, operations, the pair and the windows.
@@ -199,20 +199,24 @@ static FOUND: [(&[u64], &[Row], Option<Pair>, Windows<'static>); 14] = [
     (&[], THRICE_COVERED, None, Err((3, &[(1, None)]))),
     (
         &[5, 6],
-        &[(0, 1, 0, Deq(6))],
+        &[(0, 1, 0, Dequeue(6))],
         Some((INITIAL, INITIAL + 1, 0, None)),
         Ok(&[]),
     ),
-    (&[5, 6], &[(0, 1, 0, Deq(5))], None, Ok(&[])),
+    (&[5, 6], &[(0, 1, 0, Dequeue(5))], None, Ok(&[])),
     (
         &[5],
-        &[(0, 1, 0, Deq(5)), (2, 3, 0, Empty), (4, 5, 0, Enq(7))],
+        &[
+            (0, 1, 0, Dequeue(5)),
+            (2, 3, 0, DequeueEmpty),
+            (4, 5, 0, Enqueue(7)),
+        ],
         None,
         Ok(&[2]),
     ),
     (
         &[5],
-        &[(0, 1, 0, Enq(7)), (2, 3, 0, Empty)],
+        &[(0, 1, 0, Enqueue(7)), (2, 3, 0, DequeueEmpty)],
         None,
         Err((1, &[(INITIAL, None)])),
     ),
@@ -265,12 +269,16 @@ static WINDOWS: [(&[u64], &[Row], Option<Result<u64, &[Step]>>); 5] = [
     (&[], NEVER_EMPTY, Some(Err(&[(0, Some(3)), (2, Some(4))]))),
     (
         &[5, 6],
-        &[(0, 1, 0, Deq(5)), (2, 5, 1, Deq(6)), (3, 4, 0, Empty)],
+        &[
+            (0, 1, 0, Dequeue(5)),
+            (2, 5, 1, Dequeue(6)),
+            (3, 4, 0, DequeueEmpty),
+        ],
         Some(Ok(3)),
     ),
     (
         &[5, 6],
-        &[(0, 1, 0, Deq(5)), (2, 3, 0, Empty)],
+        &[(0, 1, 0, Dequeue(5)), (2, 3, 0, DequeueEmpty)],
         Some(Err(&[(INITIAL + 1, None)])),
     ),
 ];
@@ -292,11 +300,11 @@ fn rounds(alloc: Global, staying: u64) -> Result<Vec<Row>, AllocError> {
     let mut rows = Vec::new(alloc);
     for round in 0u64..5000 {
         let ticket = 6 * round;
-        rows.push((ticket, ticket + 1, 0, Enq(round)))?;
+        rows.push((ticket, ticket + 1, 0, Enqueue(round)))?;
         if round != staying {
-            rows.push((ticket + 2, ticket + 3, 0, Deq(round)))?;
+            rows.push((ticket + 2, ticket + 3, 0, Dequeue(round)))?;
         }
-        rows.push((ticket + 4, ticket + 5, 0, Empty))?;
+        rows.push((ticket + 4, ticket + 5, 0, DequeueEmpty))?;
     }
     Ok(rows)
 }

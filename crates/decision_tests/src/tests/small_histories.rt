@@ -1,7 +1,7 @@
 //! Small histories for tests, written as rows, and comparisons with rows.
 
 use event_records::{Event, MAX_EVENTS, MAX_INITIAL, What};
-use history_merge::OpKind::{Deq, Empty, Enq, Not};
+use history_merge::OpKind::{Dequeue, DequeueEmpty, Enqueue, EnqueueFailed};
 use history_merge::{History, OpId, OpKind, Operation, Operations, history_from};
 use std::alloc::{AllocError, Global};
 use std::test::Fail;
@@ -12,58 +12,62 @@ pub(crate) type Row = (u64, u64, u8, OpKind);
 
 /// Two overlapping enqueues, and the dequeues of their values in the opposite order.
 pub(crate) const OVERLAPPING: &[Row] = &[
-    (0, 2, 0, Enq(7)),
-    (1, 3, 1, Enq(9)),
-    (4, 5, 0, Deq(9)),
-    (6, 7, 0, Deq(7)),
+    (0, 2, 0, Enqueue(7)),
+    (1, 3, 1, Enqueue(9)),
+    (4, 5, 0, Dequeue(9)),
+    (6, 7, 0, Dequeue(7)),
 ];
 
 /// A value that overtakes one that is never dequeued.
-pub(crate) const OVERTAKEN: &[Row] = &[(0, 1, 0, Enq(7)), (2, 3, 0, Enq(9)), (4, 5, 0, Deq(9))];
+pub(crate) const OVERTAKEN: &[Row] = &[
+    (0, 1, 0, Enqueue(7)),
+    (2, 3, 0, Enqueue(9)),
+    (4, 5, 0, Dequeue(9)),
+];
 
 /// A value that overtakes one that is dequeued later.
 pub(crate) const DEQUEUED_LATER: &[Row] = &[
-    (0, 1, 0, Enq(7)),
-    (2, 3, 0, Enq(9)),
-    (4, 5, 0, Deq(9)),
-    (6, 7, 0, Deq(7)),
+    (0, 1, 0, Enqueue(7)),
+    (2, 3, 0, Enqueue(9)),
+    (4, 5, 0, Dequeue(9)),
+    (6, 7, 0, Dequeue(7)),
 ];
 
 /// A value that seems to overtake another, but may have been enqueued after the other's dequeue.
 pub(crate) const HIDDEN: &[Row] = &[
-    (0, 6, 0, Enq(7)),
-    (1, 3, 1, Deq(7)),
-    (2, 7, 2, Deq(9)),
-    (4, 5, 1, Enq(9)),
+    (0, 6, 0, Enqueue(7)),
+    (1, 3, 1, Dequeue(7)),
+    (2, 7, 2, Dequeue(9)),
+    (4, 5, 1, Enqueue(9)),
 ];
 
 /// An empty dequeue during which first one value and then another was in the queue.
 pub(crate) const NEVER_EMPTY: &[Row] = &[
-    (0, 1, 0, Enq(7)),
-    (2, 9, 1, Empty),
-    (3, 4, 0, Enq(9)),
-    (5, 6, 0, Deq(7)),
-    (10, 11, 0, Deq(9)),
+    (0, 1, 0, Enqueue(7)),
+    (2, 9, 1, DequeueEmpty),
+    (3, 4, 0, Enqueue(9)),
+    (5, 6, 0, Dequeue(7)),
+    (10, 11, 0, Dequeue(9)),
 ];
 
 /// An empty dequeue with one gap at which the queue may have been empty.
 pub(crate) const ONCE_EMPTY: &[Row] = &[
-    (0, 1, 0, Enq(7)),
-    (2, 9, 1, Empty),
-    (3, 6, 0, Enq(9)),
-    (4, 5, 2, Deq(7)),
-    (10, 11, 0, Deq(9)),
+    (0, 1, 0, Enqueue(7)),
+    (2, 9, 1, DequeueEmpty),
+    (3, 6, 0, Enqueue(9)),
+    (4, 5, 2, Dequeue(7)),
+    (10, 11, 0, Dequeue(9)),
 ];
 
 /// Two operations after three initial values.
-pub(crate) const OF_THREE: &[Row] = &[(3, 5, 2, Deq(u64::MAX)), (4, 6, 0, Not(6))];
+pub(crate) const OF_THREE: &[Row] = &[(3, 5, 2, Dequeue(u64::MAX)), (4, 6, 0, EnqueueFailed(6))];
 
 /// Four operations after the initial values 5 and 6, of which the first two overlap.
 pub(crate) const OF_TWO: &[Row] = &[
-    (0, 4, 1, Deq(5)),
-    (3, 7, 2, Enq(8)),
-    (9, 10, 1, Not(9)),
-    (20, 999_999_999_999, 63, Empty),
+    (0, 4, 1, Dequeue(5)),
+    (3, 7, 2, Enqueue(8)),
+    (9, 10, 1, EnqueueFailed(9)),
+    (20, 999_999_999_999, 63, DequeueEmpty),
 ];
 
 /// Returns the event.
@@ -89,10 +93,10 @@ pub(crate) fn number_of(source: Source) -> usize {
 /// Returns the call and the return of an operation.
 fn told(kind: OpKind) -> (What, What) {
     match kind {
-        Enq(value) => (What::CallEnq(value), What::RetEnq),
-        Not(value) => (What::CallEnq(value), What::RetNot),
-        Deq(value) => (What::CallDeq, What::RetDeq(value)),
-        Empty => (What::CallDeq, What::RetEmpty),
+        Enqueue(value) => (What::CallEnq(value), What::RetEnq),
+        EnqueueFailed(value) => (What::CallEnq(value), What::RetNot),
+        Dequeue(value) => (What::CallDeq, What::RetDeq(value)),
+        DequeueEmpty => (What::CallDeq, What::RetEmpty),
     }
 }
 

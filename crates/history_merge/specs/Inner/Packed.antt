@@ -3,31 +3,31 @@ use Rattle.std.specs.Prelude.{◌≡◌, ℕ, ◌+◌, ◌*◌, ◌/◌, ◌%◌
 use Rattle.std.proofs.Common.{refl, ap, ◌∙◌}
 use Rattle.std.proofs.lemmas.Nat.{div-mul-add, mod-mul-add}
 use Rattle.history_merge.specs.declared.operation.OpKind.{OpKind}
-use Rattle.history_merge.specs.declared.operation.OpKind.TheVariants.{Enq, Deq, Empty, Not}
+use Rattle.history_merge.specs.declared.operation.OpKind.TheVariants.{Enqueue, Dequeue, DequeueEmpty, EnqueueFailed}
 use Rattle.history_merge.specs.declared.packed.Tag.{Tag}
 use Rattle.history_merge.specs.declared.packed.Tag.TheVariants as tag
 use Rattle.history_merge.specs.declared.packed.TheConstants.{LOWER}
 
 -- the kind by its tag and value
 abbrev pub kind_by : Tag → ℕ → OpKind
-kind_by tag.Enq v = Enq v
-kind_by tag.Deq v = Deq v
-kind_by tag.Empty v = Empty
-kind_by tag.Not v = Not v
+kind_by tag.Enq v = Enqueue v
+kind_by tag.Deq v = Dequeue v
+kind_by tag.Empty v = DequeueEmpty
+kind_by tag.Not v = EnqueueFailed v
 
 -- the tag of a kind
 abbrev pub tag_of : OpKind → Tag
-tag_of (Enq v) = tag.Enq
-tag_of (Deq v) = tag.Deq
-tag_of Empty = tag.Empty
-tag_of (Not v) = tag.Not
+tag_of (Enqueue v) = tag.Enq
+tag_of (Dequeue v) = tag.Deq
+tag_of DequeueEmpty = tag.Empty
+tag_of (EnqueueFailed v) = tag.Not
 
 -- the value of a kind, or 0
 abbrev pub value_of : OpKind → ℕ
-value_of (Enq v) = v
-value_of (Deq v) = v
-value_of Empty = 0
-value_of (Not v) = v
+value_of (Enqueue v) = v
+value_of (Dequeue v) = v
+value_of DequeueEmpty = 0
+value_of (EnqueueFailed v) = v
 
 -- two halves joined to a number
 abbrev pub joined : ℕ → ℕ → ℕ

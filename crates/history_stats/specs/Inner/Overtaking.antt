@@ -4,7 +4,7 @@ use Rattle.std.specs.Ordering.{nat_cmp}
 use Rattle.std.specs.BTreeMap.{BTreeMap, get}
 use Rattle.history_merge.specs.declared.operation.Operation.{Operation}
 use Rattle.history_merge.specs.declared.operation.OpKind.{OpKind}
-use Rattle.history_merge.specs.declared.operation.OpKind.TheVariants.{Enq, Deq, Empty, Not}
+use Rattle.history_merge.specs.declared.operation.OpKind.TheVariants.{Enqueue, Dequeue, DequeueEmpty, EnqueueFailed}
 use Rattle.history_stats.specs.AtOnce.{is_taken_before, stay_count, values_put_before}
 use Rattle.history_stats.specs.Overtaking.{overtaking_of, put}
 use Rattle.history_stats.specs.Inner.AtOnce.{count_before, is_kept_before}
@@ -19,7 +19,7 @@ enqueue_call operations v = option_map (λ e. e.call) (find (λ o. put v o.kind)
 
 -- an operation as a dequeue of an enqueued value, if it is one
 abbrev pub taking_by : List Operation → Operation → OpKind → Option Taking
-taking_by operations o (Deq v) = option_map (λ call. record { enqueue_call = call; call = o.call; ret = o.ret; value = v }) (enqueue_call operations v)
+taking_by operations o (Dequeue v) = option_map (λ call. record { enqueue_call = call; call = o.call; ret = o.ret; value = v }) (enqueue_call operations v)
 taking_by operations o _ = None
 
 -- the dequeues of enqueued values

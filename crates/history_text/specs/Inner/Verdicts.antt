@@ -4,7 +4,7 @@ use Rattle.std.specs.List.{flat_map}
 use Rattle.std.specs.Option.{option_to_list}
 use Rattle.history_merge.specs.declared.operation.Operation.{Operation}
 use Rattle.history_merge.specs.declared.operation.OpKind.{OpKind}
-use Rattle.history_merge.specs.declared.operation.OpKind.TheVariants.{Enq, Deq}
+use Rattle.history_merge.specs.declared.operation.OpKind.TheVariants.{Enqueue, Dequeue}
 use Rattle.claims.specs.declared.shown.LinePlace.{LinePlace}
 use Rattle.claims.specs.Claiming.{line_at}
 use Rattle.history_text.specs.Verdicts.{claim_line}
@@ -19,6 +19,6 @@ lines_text initial operations places = flat_map (line_text initial operations) p
 
 -- the word of an operation with a value, and a space
 abbrev pub word_of : OpKind → List ℕ
-word_of (Enq v) = codes "enq "
-word_of (Deq v) = codes "deq "
+word_of (Enqueue v) = codes "enq "
+word_of (Dequeue v) = codes "deq "
 word_of _ = codes "not "

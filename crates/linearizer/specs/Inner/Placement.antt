@@ -13,8 +13,8 @@ use Rattle.value_match.specs.declared.life.Source.TheVariants as source
 use Rattle.value_match.specs.Inner.Accepted.{operation_at}
 use Rattle.value_match.specs.Inner.Courses.{on}
 use Rattle.value_match.specs.Outcome.{IsOperation}
-use Rattle.value_match.specs.Inner.Told.{timeline_of}
-use Rattle.value_match.specs.Lives.{course_of, dequeue_of, enqueue_call, enqueue_of, is_empty_answer, is_refused}
+use Rattle.value_match.specs.Inner.HistoryPlaces.{timeline_of}
+use Rattle.value_match.specs.Lives.{course_of, dequeue_of, enqueue_call, enqueue_of, is_empty_answer, is_failed}
 use Rattle.value_match.specs.Lives.{timed}
 use Rattle.linearizer.specs.declared.position.Class.{Class}
 use Rattle.linearizer.specs.declared.position.Class.TheVariants.{EarlierDequeue, Noop, Enqueue, OtherDequeue}
@@ -77,9 +77,9 @@ pub record Placed : Type 0 where
   pub position : Stored
 
 -- the place is the operation's; an operation without a place is called before the first ticket
-abbrev pub IsToldAt : List Operation → Option ℕ → Operation → Type 0
-IsToldAt operations None o = o.call < ORIGIN
-IsToldAt operations (Some place) o = IsOperation operations place o
+abbrev pub IsAtHistoryPlace : List Operation → Option ℕ → Operation → Type 0
+IsAtHistoryPlace operations None o = o.call < ORIGIN
+IsAtHistoryPlace operations (Some place) o = IsOperation operations place o
 
 -- the place of the enqueue that a value comes from, or none for an initial value
 abbrev pub place_of : Source → Option ℕ
@@ -88,7 +88,7 @@ place_of (source.Initial place) = None
 
 -- the operation has this place and this position
 abbrev pub IsPlaced : Contents → List Life → Placed → Type 0
-IsPlaced history lives placed = IsToldAt history.operations placed.place placed.operation
+IsPlaced history lives placed = IsAtHistoryPlace history.operations placed.place placed.operation
     × IsPositionOf (on (timeline_of history)) lives placed.operation (position_of placed.position)
 
 -- the operations without places and positions
@@ -146,7 +146,7 @@ NeverFall placed = AllPairs (λ p q. ¬ (StandsBefore (position_of q.position) (
 
 -- the empty dequeues and the failed enqueues
 abbrev pub noops_in : Contents → List Operation
-noops_in history = filter is_empty_answer (timed history.operations) ++ filter is_refused (timed history.operations)
+noops_in history = filter is_empty_answer (timed history.operations) ++ filter is_failed (timed history.operations)
 
 -- the empty dequeues and the failed enqueues, each once and at its position whatever the order of the values, in
 -- rising order of position

@@ -62,7 +62,7 @@ impl Write for Slow {
 /// it has this prefix of the verdict.
 fn checked<R: AllocGlobal + Threads + Wait + Sync>(
     rt: &R,
-    words: &[String],
+    args: &[String],
     most: usize,
     fails: bool,
 ) -> (u8, usize, usize, bool) {
@@ -76,30 +76,30 @@ fn checked<R: AllocGlobal + Threads + Wait + Sync>(
     };
     let input = OVERTAKEN.as_bytes();
     let errors = io::sink();
-    let status = run_over(rt, words, input, &mut writer, errors, Terminals::NONE, &[]).status;
+    let status = run_over(rt, args, input, &mut writer, errors, Terminals::NONE, &[]).status;
     let is_prefix = writer.bytes.get(..writer.count) == VERDICT.as_bytes().get(..most);
     (status, writer.writes, writer.flushes, is_prefix)
 }
 
 /// Returns the arguments that ask for a check.
-fn words(alloc: Global) -> Result<Vec<String>, AllocError> {
-    let mut words = Vec::new(alloc);
-    words.push(String::from_str(alloc, "fifobench")?)?;
-    words.push(String::from_str(alloc, "check")?)?;
-    Ok(words)
+fn args(alloc: Global) -> Result<Vec<String>, AllocError> {
+    let mut args = Vec::new(alloc);
+    args.push(String::from_str(alloc, "fifobench")?)?;
+    args.push(String::from_str(alloc, "check")?)?;
+    Ok(args)
 }
 
 // A failed call is the last one. The flush comes once, after the whole text.
 #[test]
 fn a_slow_writer_gets_the_text_or_a_front(rt: HostRuntime) -> Result<(), Fail> {
-    let words = words(rt.alloc())?;
+    let args = args(rt.alloc())?;
     let whole = VERDICT.len();
     for most in 0..whole {
         let wanted = (3, most.saturating_add(1), 0, true);
-        assert!(rt; checked(&rt, &words, most, false) == wanted, "{most}");
-        assert!(rt; checked(&rt, &words, most, true) == wanted, "{most}");
+        assert!(rt; checked(&rt, &args, most, false) == wanted, "{most}");
+        assert!(rt; checked(&rt, &args, most, true) == wanted, "{most}");
     }
-    assert!(rt; checked(&rt, &words, whole, false) == (1, whole, 1, true));
-    assert!(rt; checked(&rt, &words, whole, true) == (3, whole, 1, true));
+    assert!(rt; checked(&rt, &args, whole, false) == (1, whole, 1, true));
+    assert!(rt; checked(&rt, &args, whole, true) == (3, whole, 1, true));
     Ok(())
 }

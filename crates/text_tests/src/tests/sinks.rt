@@ -8,15 +8,15 @@ use std::io::{ErrorKind, Read, Write};
 /// A reader and writer of std that counts its calls and answers them from a table. After the table's end it takes
 /// all.
 #[derive(Drop)]
-struct Told<'a> {
+struct Scripted<'a> {
     answers: &'a [Result<usize, ErrorKind>],
     calls: usize,
     flushes: usize,
 }
 
-impl<'a> Told<'a> {
+impl<'a> Scripted<'a> {
     fn new(answers: &'a [Result<usize, ErrorKind>]) -> Self {
-        Told {
+        Scripted {
             answers,
             calls: 0,
             flushes: 0,
@@ -37,7 +37,7 @@ impl<'a> Told<'a> {
     }
 }
 
-impl Write for Told<'_> {
+impl Write for Scripted<'_> {
     fn write(&mut self, piece: &[u8]) -> io::Result<usize> {
         self.answer(piece.len())
     }
@@ -48,7 +48,7 @@ impl Write for Told<'_> {
     }
 }
 
-impl Read for Told<'_> {
+impl Read for Scripted<'_> {
     fn read(&mut self, piece: &mut [u8]) -> io::Result<usize> {
         self.answer(piece.len())
     }
@@ -64,25 +64,25 @@ const ANSWERS: [Result<usize, ErrorKind>; 4] = [
 /// Returns the result of a write of three bytes whose calls are answered like this, and the numbers of calls and
 /// flushes of its writer.
 fn written(answers: &[Result<usize, ErrorKind>]) -> (Result<usize, WriteFault>, usize, usize) {
-    let mut told = Told::new(answers);
-    let written = TextSink::write(&mut Watched::new(&mut told), b"abc");
-    (written, told.calls, told.flushes)
+    let mut scripted = Scripted::new(answers);
+    let written = TextSink::write(&mut Watched::new(&mut scripted), b"abc");
+    (written, scripted.calls, scripted.flushes)
 }
 
 /// Returns the result of a flush whose calls are answered like this, and the numbers of calls and flushes of its
 /// writer.
 fn flushed(answers: &[Result<usize, ErrorKind>]) -> (Result<(), WriteFault>, usize, usize) {
-    let mut told = Told::new(answers);
-    let flushed = TextSink::flush(&mut Watched::new(&mut told));
-    (flushed, told.calls, told.flushes)
+    let mut scripted = Scripted::new(answers);
+    let flushed = TextSink::flush(&mut Watched::new(&mut scripted));
+    (flushed, scripted.calls, scripted.flushes)
 }
 
 /// Returns the result of a read of three bytes whose calls are answered like this, and the number of calls of its
 /// reader.
 fn read(answers: &[Result<usize, ErrorKind>]) -> (Result<usize, ReadFailed>, usize) {
-    let mut told = Told::new(answers);
-    let read = TextSource::read(&mut Watched::new(&mut told), &mut [0; 3]);
-    (read, told.calls)
+    let mut scripted = Scripted::new(answers);
+    let read = TextSource::read(&mut Watched::new(&mut scripted), &mut [0; 3]);
+    (read, scripted.calls)
 }
 
 #[test]
@@ -108,9 +108,9 @@ fn a_refused_piece_is_not_written_on(rt: HostRuntime) {
         ([Ok(0), Ok(3)], 1),
         ([Err(ErrorKind::Other), Ok(3)], 1),
     ] {
-        let mut told = Told::new(&answers);
-        let written = write_piece(b"abc", &mut Watched::new(&mut told));
-        let left = (written, told.calls, told.flushes);
+        let mut scripted = Scripted::new(&answers);
+        let written = write_piece(b"abc", &mut Watched::new(&mut scripted));
+        let left = (written, scripted.calls, scripted.flushes);
         assert!(rt; left == (Err(WriteFault::Write), calls, 0), "{answers:?}");
     }
 }
@@ -122,14 +122,14 @@ fn buffered(
     pieces: &[&[u8]],
     is_flushed: bool,
 ) -> Result<(Result<(), WriteFault>, usize, usize), WriteFault> {
-    let mut told = Told::new(answers);
-    let mut sink = Buffered::new(Watched::new(&mut told));
+    let mut scripted = Scripted::new(answers);
+    let mut sink = Buffered::new(Watched::new(&mut scripted));
     for piece in pieces {
         write_piece(piece, &mut sink)?;
     }
     let ended = if is_flushed { sink.flush() } else { Ok(()) };
     drop(sink);
-    Ok((ended, told.calls, told.flushes))
+    Ok((ended, scripted.calls, scripted.flushes))
 }
 
 /// More bytes than fit twice into a buffer of 4,096, and fewer than fit three times.

@@ -34,10 +34,10 @@ fn operations_read(alloc: Global, most: usize) -> Result<Vec<Operation>, Fail>
 #[test]
 fn reads_each_operation(rt: HostRuntime) -> Result<(), Fail> {
     let expected = [
-        (0, 1, 0, OpKind::Enq(7)),
-        (2, 3, 63, OpKind::Deq(u64::MAX)),
-        (4, 999_999_999_999, 0, OpKind::Empty),
-        (5, 6, 1, OpKind::Not(0)),
+        (0, 1, 0, OpKind::Enqueue(7)),
+        (2, 3, 63, OpKind::Dequeue(u64::MAX)),
+        (4, 999_999_999_999, 0, OpKind::DequeueEmpty),
+        (5, 6, 1, OpKind::EnqueueFailed(0)),
     ]
     .map(|(call, ret, thread, kind)| Operation {
         call,

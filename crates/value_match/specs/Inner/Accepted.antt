@@ -1,10 +1,10 @@
 -- Enqueued values by the places of their operations in a timeline.
 use Rattle.std.specs.Prelude.{◌≡◌, ℕ, All, List, Option, Some, None, map, option_map, slice_index_or}
 use Rattle.history_merge.specs.declared.operation.Operation.{Operation}
-use Rattle.history_merge.specs.declared.operation.OpKind.TheVariants.{Enq}
+use Rattle.history_merge.specs.declared.operation.OpKind.TheVariants.{Enqueue}
 use Rattle.history_merge.specs.Operations.{IsAt}
 use Rattle.value_match.specs.Lives.{IsMaybeAt, dequeue_of, enqueue_of, lives_of}
-use Rattle.value_match.specs.Inner.Told.{told_place, told_source}
+use Rattle.value_match.specs.Inner.HistoryPlaces.{history_place, history_source}
 use Rattle.value_match.specs.declared.life.Life.{Life}
 use Rattle.value_match.specs.declared.life.MatchedValue.{MatchedValue}
 use Rattle.value_match.specs.declared.accepted.Pair.{Pair}
@@ -17,7 +17,7 @@ pub record PlacedLife : Type 0 where
 
 -- the operation at this place; out of range, any
 abbrev pub operation_at : List Operation → ℕ → Operation
-operation_at operations place = slice_index_or operations place (record { call = 0; ret = 0; thread = 0; kind = Enq 0 })
+operation_at operations place = slice_index_or operations place (record { call = 0; ret = 0; thread = 0; kind = Enqueue 0 })
 
 -- the operation at this place, if there is one
 abbrev pub maybe_operation_at : List Operation → Option ℕ → Option Operation
@@ -41,9 +41,9 @@ abbrev pub HoldsLives : List Operation → List PlacedLife → Type 0
 HoldsLives operations values = (map (λ m. m.life) values ≡ lives_of operations) × All (HasPlaces operations) values
 
 -- the value by its places in the history, whose timeline begins with this many initial values
-abbrev pub told_at : ℕ → List Operation → Pair → MatchedValue
-told_at initial_count timeline pair = record {
+abbrev pub history_value : ℕ → List Operation → Pair → MatchedValue
+history_value initial_count timeline pair = record {
   life = (value_at timeline pair).life;
-  source = told_source initial_count pair.enqueue;
-  dequeue = option_map (told_place initial_count) pair.dequeue;
+  source = history_source initial_count pair.enqueue;
+  dequeue = option_map (history_place initial_count) pair.dequeue;
 }

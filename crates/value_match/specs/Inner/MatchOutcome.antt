@@ -13,7 +13,7 @@ use Rattle.value_match.specs.Choice.{IsChosenFresh, IsChosenRepeat}
 use Rattle.value_match.specs.Lives.{IsMaybeAt}
 use Rattle.value_match.specs.Violations.{NoFreshViolation}
 use Rattle.value_match.specs.Inner.Sources.{HasTakersTo}
-use Rattle.value_match.specs.Inner.SortedOut.{IsSortedOutOf}
+use Rattle.value_match.specs.Inner.ByKind.{IsByKindOf}
 
 -- the places are those of the chosen phantom dequeue and of the call for its value
 abbrev pub AreChosenFresh : List Operation → FreshPlaces → Type 0
@@ -34,6 +34,6 @@ AreTakers operations (takers.Twice places) = AreChosenRepeat operations places
 
 -- the result of matching these operations
 abbrev pub IsMatchOutcomeOf : List Operation → MatchOutcome → Type 0
-IsMatchOutcomeOf operations (found.Clear sorted) = IsSortedOutOf operations sorted
+IsMatchOutcomeOf operations (found.Clear sorted) = IsByKindOf operations sorted
 IsMatchOutcomeOf operations (found.Fresh places) = AreChosenFresh operations places
 IsMatchOutcomeOf operations (found.Repeat places) = AreChosenRepeat operations places

@@ -5,7 +5,7 @@ use Rattle.std.specs.List.Sorted.{IsNonDecreasingBy}
 use Rattle.std.specs.Ordering.{nat_cmp}
 use Rattle.history_merge.specs.declared.operation.Operation.{Operation}
 use Rattle.history_merge.specs.declared.operation.OpKind.{OpKind}
-use Rattle.history_merge.specs.declared.operation.OpKind.TheVariants.{Deq}
+use Rattle.history_merge.specs.declared.operation.OpKind.TheVariants.{Dequeue}
 use Rattle.history_merge.specs.Operations.{IsAt, enqueued_value}
 use Rattle.value_match.specs.declared.others.Bounds.{Bounds}
 use Rattle.value_match.specs.declared.others.Call.{Call}
@@ -35,7 +35,7 @@ pub record HoldsOthers (wanted : BTreeSet ℕ) (operations : List Operation) (ca
 
 -- the place is that of the call for the value of a dequeue; if the call isn't found yet, the value is wanted
 abbrev pub IsNearSource : BTreeSet ℕ → List Operation → OpKind → Option ℕ → Type 0
-IsNearSource wanted operations (Deq v) None = contains nat_cmp wanted v ≡ true
+IsNearSource wanted operations (Dequeue v) None = contains nat_cmp wanted v ≡ true
 IsNearSource wanted operations kind source = IsSourceOf operations kind source
 
 -- such places for the operations from one place on and before another, one by one

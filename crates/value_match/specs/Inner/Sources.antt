@@ -3,7 +3,7 @@ use Rattle.std.specs.Prelude.{◌≡◌, ℕ, ◌+◌, ◌<◌, List, length, sl
 use Rattle.std.specs.Option.{option_map_or}
 use Rattle.history_merge.specs.declared.operation.Operation.{Operation}
 use Rattle.history_merge.specs.declared.operation.OpKind.{OpKind}
-use Rattle.history_merge.specs.declared.operation.OpKind.TheVariants.{Enq, Deq}
+use Rattle.history_merge.specs.declared.operation.OpKind.TheVariants.{Enqueue, Dequeue}
 use Rattle.history_merge.specs.Operations.{IsAt, NoneDid, enqueued_value}
 use Rattle.value_match.specs.Inner.Courses.{on}
 use Rattle.value_match.specs.Lives.{IsMaybeAt}
@@ -17,7 +17,7 @@ IsCallPlace operations v (Some place) = (o : Operation) × IsAt operations place
 
 -- the place is that of the call for the value of a dequeue; other operations have none
 abbrev pub IsSourceOf : List Operation → OpKind → Option ℕ → Type 0
-IsSourceOf operations (Deq v) source = IsCallPlace operations v source
+IsSourceOf operations (Dequeue v) source = IsCallPlace operations v source
 IsSourceOf operations _ source = source ≡ None
 
 -- the places are the sources of the operations from one place on, one by one
@@ -38,7 +38,7 @@ pub record TakesFrom (operations : List Operation) (i p : ℕ) : Type 0 where
   pub value : ℕ
   pub dequeue : Operation
   pub at : IsAt operations i dequeue
-  pub dequeues : dequeue.kind ≡ Deq value
+  pub dequeues : dequeue.kind ≡ Dequeue value
   pub from_call : IsCallPlace operations value (Some p)
 
 -- at each place stands the one of the first n operations that takes from it, if there is one
@@ -48,14 +48,14 @@ pub record HasTakersTo (operations : List Operation) (n : ℕ) (takers : List (O
   pub takes : (i p : ℕ) → i < n → TakesFrom operations i p → slice_index_or takers p None ≡ Some i
 
 -- the first n operations are a matched prefix: none is a phantom dequeue, and no two take from one place
-pub record AreSettled (operations : List Operation) (n : ℕ) (takers : List (Option ℕ)) : Type 0 where
+pub record IsMatchedPrefix (operations : List Operation) (n : ℕ) (takers : List (Option ℕ)) : Type 0 where
   pub in_time : NoneFresh operations n
   pub noted : HasTakersTo operations n takers
 
 -- the matched prefix, and the sources of the operations after it
 pub record AreSources (operations : List Operation) (sources : Sources) : Type 0 where
-  pub settled : AreSettled operations sources.settled sources.takers.items
-  pub holds : HoldsSources operations sources.settled sources.places.items
+  pub prefix : IsMatchedPrefix operations sources.prefix sources.takers.items
+  pub holds : HoldsSources operations sources.prefix sources.places.items
 
 -- the return of the operation at this place
 abbrev pub return_at : List Operation → ℕ → ℕ
@@ -63,10 +63,10 @@ return_at operations place = option_map_or (λ o. o.ret) (slice_get operations p
 
 -- the place is that of a dequeue of this value, or none if the value was never dequeued
 abbrev pub IsDequeuePlace : List Operation → ℕ → Option ℕ → Type 0
-IsDequeuePlace operations v None = NoneDid operations (Deq v)
-IsDequeuePlace operations v (Some place) = (o : Operation) × IsAt operations place o × (o.kind ≡ Deq v)
+IsDequeuePlace operations v None = NoneDid operations (Dequeue v)
+IsDequeuePlace operations v (Some place) = (o : Operation) × IsAt operations place o × (o.kind ≡ Dequeue v)
 
 -- at the place of each successful enqueue stands that of its value's dequeue, if there is one
 pub record HoldsDequeues (operations : List Operation) (dequeues : List (Option ℕ)) : Type 0 where
   pub one_each : length dequeues ≡ length operations
-  pub each : (i : ℕ) (o : Operation) (v : ℕ) → IsAt operations i o → o.kind ≡ Enq v → IsDequeuePlace operations v (slice_index_or dequeues i None)
+  pub each : (i : ℕ) (o : Operation) (v : ℕ) → IsAt operations i o → o.kind ≡ Enqueue v → IsDequeuePlace operations v (slice_index_or dequeues i None)

@@ -2,7 +2,7 @@
 use Rattle.std.specs.Prelude.{◌<◌, ℕ, List, AllPairs, Option, None, Some}
 use Rattle.history_merge.specs.declared.operation.Operation.{Operation}
 use Rattle.history_merge.specs.declared.operation.OpKind.{OpKind}
-use Rattle.history_merge.specs.declared.operation.OpKind.TheVariants.{Enq, Deq}
+use Rattle.history_merge.specs.declared.operation.OpKind.TheVariants.{Enqueue, Dequeue}
 use Rattle.claims.specs.declared.claimed.ClaimLine.{ClaimLine}
 use Rattle.claims.specs.declared.claimed.ClaimLine.TheVariants.{Op, Initial}
 
@@ -12,12 +12,12 @@ CallsRise operations = AllPairs (λ earlier later. earlier.call < later.call) op
 
 -- the value that an operation dequeued
 abbrev pub value_dequeued : OpKind → Option ℕ
-value_dequeued (Deq v) = Some v
+value_dequeued (Dequeue v) = Some v
 value_dequeued _ = None
 
 -- the value that an operation enqueued
 abbrev pub value_enqueued : OpKind → Option ℕ
-value_enqueued (Enq v) = Some v
+value_enqueued (Enqueue v) = Some v
 value_enqueued _ = None
 
 -- the value that the line dequeued

@@ -5,4 +5,4 @@ use Rattle.command_words.proofs.Requests.{answerable_is_asked}
 use Rattle.command_words.proofs.laws.words_without_a_fault_are_a_command.Goals as goal
 
 pub returns : goal.returns
-returns c = λ words none. answerable_is_asked (subcommand_of the_program words) (answerable words none)
+returns c = λ args none. answerable_is_asked (subcommand_of the_program args) (answerable args none)

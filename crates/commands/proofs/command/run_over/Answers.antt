@@ -11,7 +11,7 @@ returns-clause-reads g c = λ request none asked.
       input = read.input;
       may = rw c.new-2.ensures at read.may;
       is_so = rw (c.into_inner-3.ensures, c.into_inner-2.ensures, c.into_inner.ensures)
-          (behind (λ old new r. PrintsOneOf (is_quiet_in (map g.T.AsStr.text c.args.words.now)) (AnswersOrNoMemory (AnswersOf request) read.input)
+          (behind (λ old new r. PrintsOneOf (is_quiet_in (map g.T.AsStr.text c.args.args.now)) (AnswersOrNoMemory (AnswersOf request) read.input)
           old new r c.run_command-status.result) (g.O.Write.contents c.args.output) _ c.run_command-status.new.writer.kept _ _
           c.run_command-status.ensures.passed_on (rw (c.new-output.ensures, c.new.ensures) at read.is_so));
     }
@@ -20,7 +20,7 @@ pub returns-clause-usage : goal.returns-clause-usage
 returns-clause-usage g c = λ some.
     let told = c.run_command-status.ensures.usage some in
     rw (c.into_inner-3.ensures, c.into_inner-2.ensures, c.into_inner.ensures)
-    (behind (λ old new r. ExplainsUse (faults_in (map g.T.AsStr.text c.args.words.now)) old new r c.run_command-status.result)
+    (behind (λ old new r. ExplainsUse (faults_in (map g.T.AsStr.text c.args.args.now)) old new r c.run_command-status.result)
     (g.O.Write.contents c.args.output) _ c.run_command-status.new.writer.kept _ _ c.run_command-status.ensures.passed_on
     (rw (c.new-output.ensures, c.new.ensures) at told))
 
@@ -28,7 +28,7 @@ pub returns-clause-stresses : goal.returns-clause-stresses
 returns-clause-stresses g c = λ settings none asked.
     let ran = c.run_command-status.ensures.stresses settings none asked in
     rw (c.into_inner-3.ensures, c.into_inner-2.ensures, c.into_inner.ensures)
-    (behind_one (is_quiet_in (map g.T.AsStr.text c.args.words.now)) _ c.run_command-status.result (g.O.Write.contents c.args.output) _
+    (behind_one (is_quiet_in (map g.T.AsStr.text c.args.args.now)) _ c.run_command-status.result (g.O.Write.contents c.args.output) _
     c.run_command-status.new.writer.kept _ _ c.run_command-status.ensures.passed_on (rw (c.new-output.ensures, c.new.ensures) at ran))
 
 pub returns-clause-said : goal.returns-clause-said

@@ -4,4 +4,4 @@ use Rattle.drawing.proofs.terminal.place_lane_names.Given as goal
 abbrev pub invariant-loop-thread : goal.invariant-loop-thread
 invariant-loop-thread l =
     l.line.items ≡ with_words l.fn.line.items
-    (lane_names l.sheet.columns (scene_on l.sheet.scene.now).threads l.tens (take l.thread-index l.threads))
+    (lane_names l.canvas.columns (scene_on l.canvas.scene.now).threads l.tens (take l.thread-index l.threads))

@@ -4,6 +4,6 @@ use Rattle.drawing.proofs.terminal.place_lanes.Given as goal
 abbrev pub invariant-loop-thread : goal.invariant-loop-thread
 invariant-loop-thread l =
     l.line.items ≡ with_words l.fn.line.items (map (λ thread. record {
-      column = lane_column l.sheet.columns (scene_on l.sheet.scene.now).threads thread;
-      bytes = lane_sign l.sheet.columns (scene_on l.sheet.scene.now) l.row (under_way l.sheet.scene.now.added_from (scene_on l.sheet.scene.now).operations thread l.ticket);
+      column = lane_column l.canvas.columns (scene_on l.canvas.scene.now).threads thread;
+      bytes = lane_sign l.canvas.columns (scene_on l.canvas.scene.now) l.row (under_way l.canvas.scene.now.added_from (scene_on l.canvas.scene.now).operations thread l.ticket);
     }) (take l.thread-index l.threads))

@@ -3,4 +3,4 @@ use Rattle.drawing.proofs.terminal.terminal_picture.Given as goal
 
 abbrev pub invariant-loop-i : goal.invariant-loop-i
 invariant-loop-i l =
-    l.text.items ≡ l.initial.text.items ++ flat_map (numbered_row l.sheet.columns (scene_on l.sheet.scene.now)) (enumerate_from 0 (take l.i l.row-items))
+    l.text.items ≡ l.initial.text.items ++ flat_map (numbered_row l.canvas.columns (scene_on l.canvas.scene.now)) (enumerate_from 0 (take l.i l.row-items))

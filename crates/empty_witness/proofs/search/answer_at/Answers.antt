@@ -1,11 +1,11 @@
-use Rattle.empty_witness.proofs.Common.{ap, arith, Did, Empty, IsAt, later_by, NEVER, ORIGIN, slice_get}
+use Rattle.empty_witness.proofs.Common.{ap, arith, Did, DequeueEmpty, IsAt, later_by, NEVER, ORIGIN, slice_get}
 use Rattle.empty_witness.proofs.Common.{Some, sym, timed, ◌+◌, ◌<◌, ◌∙◌, ◌≡◌, ◌≤◌}
 use Rattle.empty_witness.proofs.Answers.{answer_timed}
 use Rattle.empty_witness.proofs.search.answer_at.Goals.{After-unwrap-operation}
 use Rattle.empty_witness.proofs.search.answer_at.Goals as goal
 
 answer : (c : After-unwrap-operation) → IsAt (timed c.args.matching.now.operations) c.args.empty (later_by ORIGIN c.unwrap-operation.result)
-    × Did (timed c.args.matching.now.operations) (later_by ORIGIN c.unwrap-operation.result) Empty
+    × Did (timed c.args.matching.now.operations) (later_by ORIGIN c.unwrap-operation.result) DequeueEmpty
     × (c.unwrap-operation.result.call ≤ c.unwrap-operation.result.ret) × (c.unwrap-operation.result.ret + ORIGIN < NEVER)
 answer c =
     let matching = c.args.matching.now in

@@ -11,7 +11,7 @@ first c = subst (λ old. Adds c.args.matching.now (filter is_empty_answer (timed
 
 pub new-requires : goal.new-requires
 new-requires c = rw c.operations-operations.ensures.operations (noops_within _ c.requires.clear _ _ (first (goal.at.new-requires c).After-sort_unstable_by_key)
-    c.in_ok-add_refused.ensures _ c.sort_unstable_by_key.ensures.permutation)
+    c.in_ok-add_failed.ensures _ c.sort_unstable_by_key.ensures.permutation)
 
 pub returns : goal.returns
 returns c =
@@ -21,6 +21,6 @@ returns c =
     let moved = c.sort_unstable_by_key.ensures.permutation in
     let rises = IsNonDecreasingBy-from_sort_by_key (λ noop. PLACES * noop.time + noop.place) _ c.sort_unstable_by_key.ensures.sorted
     (λ a r q k. search rules) in
-    let within = noops_within history c.requires.clear _ _ empties c.in_ok-add_refused.ensures _ moved in
-    rw (c.new.ensures, known.operations) (noops_held history c.requires.clear _ _ empties c.in_ok-add_refused.ensures _ moved
+    let within = noops_within history c.requires.clear _ _ empties c.in_ok-add_failed.ensures _ moved in
+    rw (c.new.ensures, known.operations) (noops_held history c.requires.clear _ _ empties c.in_ok-add_failed.ensures _ moved
     (noops_never_fall history c.requires.clear _ (omega (arith, known.few)) within rises))

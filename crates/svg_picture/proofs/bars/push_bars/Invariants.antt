@@ -3,4 +3,4 @@ use Rattle.svg_picture.proofs.bars.push_bars.Given as goal
 
 abbrev pub invariant-loop-operation : goal.invariant-loop-operation
 invariant-loop-operation l =
-    l.text.items ≡ l.fn.text.items ++ text_of (each (bar (page_on l.sheet)) (take l.operation-index l.operations))
+    l.text.items ≡ l.fn.text.items ++ text_of (each (bar (page_on l.canvas)) (take l.operation-index l.operations))

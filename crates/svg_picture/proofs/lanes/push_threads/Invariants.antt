@@ -3,4 +3,4 @@ use Rattle.svg_picture.proofs.lanes.push_threads.Given as goal
 
 abbrev pub invariant-loop-thread : goal.invariant-loop-thread
 invariant-loop-thread l =
-    l.text.items ≡ l.fn.text.items ++ text_of (each (lane_names (page_on l.sheet)) (take l.thread-index l.threads))
+    l.text.items ≡ l.fn.text.items ++ text_of (each (lane_names (page_on l.canvas)) (take l.thread-index l.threads))

@@ -1,4 +1,4 @@
-use Rattle.value_match.proofs.Common.{arith, Enq, false≢true, get_or, get_or_read, IsAt, IsSourceOf, length, None}
+use Rattle.value_match.proofs.Common.{arith, Enqueue, false≢true, get_or, get_or_read, IsAt, IsSourceOf, length, None}
 use Rattle.value_match.proofs.Common.{Operation, slice_get-get_or, subst, sym, ◌-◌, ◌<◌, ◌∙◌}
 use Rattle.value_match.proofs.CallPlaces.{source_at}
 use Rattle.value_match.proofs.FreshDequeues.{first_in_range, first_more, first_of_all, first_skip}
@@ -7,7 +7,7 @@ use Rattle.value_match.proofs.fresh.first_fresh.Goals as goal
 
 -- the operation that the walk reads
 abbrev read : (c : After-index-sources-place) → Operation
-read c = get_or c.args.operations.now c.loop-place.place (record { call = 0; ret = 0; thread = 0; kind = Enq 0 })
+read c = get_or c.args.operations.now c.loop-place.place (record { call = 0; ret = 0; thread = 0; kind = Enqueue 0 })
 
 here : (c : After-index-sources-place) → IsAt c.args.operations.now c.loop-place.place (read c)
 here c = slice_get-get_or c.args.operations.now c.loop-place.place _ c.loop-place-test.true
@@ -16,7 +16,7 @@ here c = slice_get-get_or c.args.operations.now c.loop-place.place _ c.loop-plac
 source : (c : After-index-sources-place) (o : Operation) → IsAt c.args.operations.now c.loop-place.place o
     → IsSourceOf c.args.operations.now o.kind c.index-sources-place.result
 source c o at =
-    let within : c.loop-place.place - c.args.settled < length c.args.sources.now =
+    let within : c.loop-place.place - c.args.prefix < length c.args.sources.now =
     omega (arith, c.loop-place-test.true, c.loop-place.auto.place, c.requires.sources.one_each) in
     subst (IsSourceOf c.args.operations.now o.kind) (sym (get_or_read c.args.sources.now _ _ within c.index-sources-place.is None))
     (source_at _ _ _ o _ c.requires.sources c.loop-place.auto.place at)

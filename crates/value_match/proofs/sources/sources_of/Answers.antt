@@ -4,8 +4,8 @@ use Rattle.value_match.proofs.RepeatedDequeues.{no_takers}
 use Rattle.value_match.proofs.sources.sources_of.Goals.{else-not-is_empty, then-not-is_empty+in_ok-others}
 use Rattle.value_match.proofs.sources.sources_of.Goals as goal
 
-pub settle-settled-requires-clause-none : goal.settle-settled-requires-clause-none
-settle-settled-requires-clause-none c =
+pub match_prefix-prefix-requires-clause-none : goal.match_prefix-prefix-requires-clause-none
+match_prefix-prefix-requires-clause-none c =
     let all : length c.args.operations.now - 0 ≡ length c.args.operations.now = omega arith in
     rw (
       c.as_mut_slice.ensures.value,
@@ -20,10 +20,10 @@ settle-settled-requires-clause-none c =
 pub returns : goal.returns
 returns c =
     let near = c.in_ok-near.ensures in
-    let written = with_items_is c.resize.new.self c.settle-settled.new.takers
-    (omega (arith, c.settle-settled.ensures.len, c.as_mut_slice.ensures.len, c.resize.new.self.ok.0)) in
+    let written = with_items_is c.resize.new.self c.match_prefix-prefix.new.takers
+    (omega (arith, c.match_prefix-prefix.ensures.len, c.as_mut_slice.ensures.len, c.resize.new.self.ok.0)) in
     record {
-      settled = rw written c.settle-settled.ensures.settled;
+      prefix = rw written c.match_prefix-prefix.ensures.prefix;
       holds = elim c.if-not-is_empty.branch [
         | then-not-is_empty+in_ok-others w ↦
             let found = w.find_others.ensures in

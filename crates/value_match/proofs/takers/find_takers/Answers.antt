@@ -1,4 +1,4 @@
-use Rattle.value_match.proofs.Common.{arith, Enq, get_or, get_or_read, IsAt, IsSourceOf, length, None, Operation}
+use Rattle.value_match.proofs.Common.{arith, Enqueue, get_or, get_or_read, IsAt, IsSourceOf, length, None, Operation}
 use Rattle.value_match.proofs.Common.{slice_get-get_or, Some, subst, sym, TakesFrom, ◌-◌, ◌<◌, ◌∙◌, ◌≡◌}
 use Rattle.value_match.proofs.CallPlaces.{source_at}
 use Rattle.value_match.proofs.RepeatedDequeues.{found_inside, met_again, met_first, met_once, met_skip, once_taken}
@@ -9,9 +9,9 @@ use Rattle.value_match.proofs.takers.find_takers.Goals as goal
 -- the operation that the walk reads
 here : (c : After-get) → (o : Operation) × IsAt c.args.operations.now c.loop-place.place o × IsSourceOf c.args.operations.now o.kind c.get.result
 here c =
-    let d : Operation = record { call = 0; ret = 0; thread = 0; kind = Enq 0 } in
+    let d : Operation = record { call = 0; ret = 0; thread = 0; kind = Enqueue 0 } in
     let at = slice_get-get_or c.args.operations.now c.loop-place.place d c.loop-place-test.true in
-    let within : c.loop-place.place - c.args.settled < length c.args.sources.now =
+    let within : c.loop-place.place - c.args.prefix < length c.args.sources.now =
     omega (arith, c.loop-place-test.true, c.loop-place.auto.place, c.requires.sources.one_each) in
     let read = get_or_read c.args.sources.now _ _ within c.index-sources-place.is None in (
       get_or c.args.operations.now c.loop-place.place d,

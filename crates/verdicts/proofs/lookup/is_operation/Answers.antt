@@ -1,5 +1,5 @@
 use Rattle.verdicts.proofs.Common.{arith, few_initial, later_by, operation_within, operations_of, ORIGIN, refl}
-use Rattle.value_match.proofs.ToldPlaces.{called_late}
+use Rattle.value_match.proofs.HistoryPlaces.{called_late}
 use Rattle.verdicts.proofs.ClaimedLines.{through}
 use Rattle.verdicts.proofs.lookup.is_operation.Goals as goal
 

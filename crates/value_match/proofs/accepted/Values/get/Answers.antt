@@ -1,5 +1,5 @@
 use Rattle.value_match.proofs.Common.{arith}
-use Rattle.value_match.proofs.SortedOut.{pair_within}
+use Rattle.value_match.proofs.ByKind.{pair_within}
 use Rattle.value_match.proofs.accepted.Values.get.Goals as goal
 
 pub value_of-requires-clause-enqueue : goal.value_of-requires-clause-enqueue

@@ -1,5 +1,5 @@
 use Rattle.value_match.proofs.Common.{operations_of}
-use Rattle.value_match.proofs.ToldPlaces.{empties_told}
+use Rattle.value_match.proofs.HistoryPlaces.{empties_told}
 use Rattle.value_match.proofs.matching.Matching.empties.Goals as goal
 
 pub returns : goal.returns

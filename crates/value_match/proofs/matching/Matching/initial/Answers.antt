@@ -1,5 +1,5 @@
 use Rattle.value_match.proofs.Common.{course_of, IsClear, operations_of, refl, subst}
-use Rattle.value_match.proofs.ToldPlaces.{clear_told}
+use Rattle.value_match.proofs.HistoryPlaces.{clear_told}
 use Rattle.value_match.proofs.matching.Matching.initial.Goals as goal
 
 pub returns-clause-clear : goal.returns-clause-clear

@@ -1,6 +1,6 @@
 use Rattle.value_match.proofs.Common.{arith, course_of, IsClear, operations_of, refl, subst}
 use Rattle.history_merge.proofs.Timelines.{length_timeline}
-use Rattle.value_match.proofs.ToldPlaces.{clear_told, few_initial}
+use Rattle.value_match.proofs.HistoryPlaces.{clear_told, few_initial}
 use Rattle.value_match.proofs.matching.Matching.operations.Goals as goal
 
 pub returns-clause-few : goal.returns-clause-few

@@ -1,5 +1,5 @@
 use Rattle.value_match.proofs.Common.{operations_of}
-use Rattle.value_match.proofs.ToldPlaces.{few_initial, lists_its_lives, values_told}
+use Rattle.value_match.proofs.HistoryPlaces.{few_initial, lists_its_lives, values_told}
 use Rattle.value_match.proofs.matching.Matching.values.Goals as goal
 
 pub returns-clause-values : goal.returns-clause-values

@@ -1,8 +1,8 @@
 -- The operations sorted by kind, in a walk over them.
 use Rattle.value_match.proofs.Common.{[], All, All-get_or, All-push, ap, append-nil, Bool, cases_Bool, cond}
-use Rattle.value_match.proofs.Common.{cons_option, contains_at, dequeue_of, Enq, enqueue_of, filter, filter-append}
+use Rattle.value_match.proofs.Common.{cons_option, contains_at, dequeue_of, Enqueue, enqueue_of, filter, filter-append}
 use Rattle.value_match.proofs.Common.{filter_map, filter_map-append, find, get_or, get_or-map, get_or_from_slice_get}
-use Rattle.value_match.proofs.Common.{HasPlaces, IfSome, inl, inr, is_dequeue_of, is_empty_answer, is_refused, IsAt}
+use Rattle.value_match.proofs.Common.{HasPlaces, IfSome, inl, inr, is_dequeue_of, is_empty_answer, is_failed, IsAt}
 use Rattle.value_match.proofs.Common.{IsClear, IsDequeuePlace, IsMaybeAt, length, length-map, Life, life_from, List}
 use Rattle.value_match.proofs.Common.{map, map-append, maybe_operation_at, None, on, one_at, Operation, operation_at}
 use Rattle.value_match.proofs.Common.{Option, Pair, PlacedLife, refl, slice_get, slice_get_within, Some, subst, sym}
@@ -11,11 +11,11 @@ use Rattle.value_match.proofs.RepeatedDequeues.{found_at_place}
 use Rattle.value_match.proofs.Lists.{one_more}
 
 -- the first n operations by kind
-pub record IsSortedOut (operations : List Operation) (n : ℕ) (values : List PlacedLife) (empties refused : List ℕ) : Type 0 where
+pub record IsByKind (operations : List Operation) (n : ℕ) (values : List PlacedLife) (empties failed : List ℕ) : Type 0 where
   pub lives : map (λ m. m.life) values ≡ filter_map (λ o. life_from operations o o.kind) (take n operations)
   pub places : All (HasPlaces operations) values
   pub empty_answers : map (slice_get operations) empties ≡ map Some (filter is_empty_answer (take n operations))
-  pub refused_enqueues : map (slice_get operations) refused ≡ map Some (filter is_refused (take n operations))
+  pub failed_enqueues : map (slice_get operations) failed ≡ map Some (filter is_failed (take n operations))
 
 -- ---- one more operation
 
@@ -29,8 +29,8 @@ lives_more : (operations : List Operation) (i : ℕ) (o : Operation) (life : Opt
 lives_more operations i o life lives here is known =
     rw (known, taken_more operations i o here, filter_map-append, is) refl
 
-module _ (operations : List Operation) (i : ℕ) (o : Operation) (values : List PlacedLife) (empties refused : List ℕ) (here : IsAt operations i o)
-    (known : IsSortedOut operations i values empties refused) where
+module _ (operations : List Operation) (i : ℕ) (o : Operation) (values : List PlacedLife) (empties failed : List ℕ) (here : IsAt operations i o)
+    (known : IsByKind operations i values empties failed) where
   -- the places of the operations that pass a test, with this one if it passes
   places_more : (test : Operation → Bool) (places : List ℕ) → map (slice_get operations) places ≡ map Some (filter test (take i operations))
       → map (slice_get operations) (cond (test o) (places ++ i ∷ []) places) ≡ map Some (filter test (take (i + 1) operations))
@@ -40,9 +40,9 @@ module _ (operations : List Operation) (i : ℕ) (o : Operation) (values : List 
   ])
 
   -- one more successful enqueue, with its dequeue
-  pub sorted_enqueue : (v : ℕ) (m : PlacedLife) (place : Option ℕ) → o.kind ≡ Enq v → IsAt operations i (enqueue_of m.life)
+  pub sorted_enqueue : (v : ℕ) (m : PlacedLife) (place : Option ℕ) → o.kind ≡ Enqueue v → IsAt operations i (enqueue_of m.life)
       → IsMaybeAt operations place (dequeue_of m.life) → (m.enqueue ≡ i) × (m.dequeue ≡ place)
-      → IsClear (on operations) → IsDequeuePlace operations v place → IsSortedOut operations (i + 1) (values ++ m ∷ []) empties refused
+      → IsClear (on operations) → IsDequeuePlace operations v place → IsByKind operations (i + 1) (values ++ m ∷ []) empties failed
   sorted_enqueue v m place is enqueue dequeue named clear from = record {
     lives = map-append (λ m. m.life) values (m ∷ []) ∙ lives_more operations i o (Some m.life) (map (λ m. m.life) values) here life known.lives;
     places = All-push (HasPlaces operations) values m known.places (
@@ -51,7 +51,7 @@ module _ (operations : List Operation) (i : ℕ) (o : Operation) (values : List 
           (sym named.1) dequeue,
     );
     empty_answers = rw is at (places_more is_empty_answer empties known.empty_answers);
-    refused_enqueues = rw is at (places_more is_refused refused known.refused_enqueues);
+    failed_enqueues = rw is at (places_more is_failed failed known.failed_enqueues);
   }
     where
       found : dequeue_of m.life ≡ find (is_dequeue_of v) operations
@@ -65,13 +65,13 @@ module _ (operations : List Operation) (i : ℕ) (o : Operation) (values : List 
           subst (λ kind. life_from operations o kind ≡ Some m.life) (sym is) (ap (λ l. Some l) made)
 
   -- one more operation that is no successful enqueue; a dequeue adds nothing, since it is listed with its enqueue
-  pub sorted_other : life_from operations o o.kind ≡ None → IsSortedOut operations (i + 1) values (cond (is_empty_answer o) (empties ++ i ∷ []) empties)
-      (cond (is_refused o) (refused ++ i ∷ []) refused)
+  pub sorted_other : life_from operations o o.kind ≡ None → IsByKind operations (i + 1) values (cond (is_empty_answer o) (empties ++ i ∷ []) empties)
+      (cond (is_failed o) (failed ++ i ∷ []) failed)
   sorted_other none = record {
     lives = sym (append-nil (map (λ m. m.life) values)) ∙ lives_more operations i o None (map (λ m. m.life) values) here none known.lives;
     places = known.places;
     empty_answers = places_more is_empty_answer empties known.empty_answers;
-    refused_enqueues = places_more is_refused refused known.refused_enqueues;
+    failed_enqueues = places_more is_failed failed known.failed_enqueues;
   }
 
 -- ---- pairs

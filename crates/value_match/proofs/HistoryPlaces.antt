@@ -2,18 +2,18 @@
 use Rattle.value_match.proofs.Common.{[], ap, ap₂, AreChosenFresh, AreChosenRepeat, AreComplete, ArePlacesOf, arith}
 use Rattle.value_match.proofs.Common.{behind, Bool, cases_Bool, cases_lt, cond, cons_option, Contains}
 use Rattle.value_match.proofs.Common.{Contains-append_cases, Contains-append_left, Contains-append_right, contains_at}
-use Rattle.value_match.proofs.Common.{course, CoversFrom, Deq, dequeue_call, dequeue_of, Did, Empty, Enq, enqueue_at}
+use Rattle.value_match.proofs.Common.{course, CoversFrom, Dequeue, dequeue_call, dequeue_of, Did, DequeueEmpty, Enqueue, enqueue_at}
 use Rattle.value_match.proofs.Common.{enqueue_of, enqueues_from, false, filter, filter-append, filter_map}
 use Rattle.value_match.proofs.Common.{filter_map-append, find, fresh, FreshPlaces, get_or, HasPlaces, HoldsLives}
 use Rattle.value_match.proofs.Common.{HoldsPlaces, HoldsValues, initial_enqueue, initial_enqueues, initial_time, inl}
-use Rattle.value_match.proofs.Common.{inr, is_dequeue_of, is_empty_answer, is_refused, IsAt, IsClear, IsFreshViolation}
+use Rattle.value_match.proofs.Common.{inr, is_dequeue_of, is_empty_answer, is_failed, IsAt, IsClear, IsFreshViolation}
 use Rattle.value_match.proofs.Common.{IsLife, IsMaybeAt, IsMaybeOperation, IsNamed, IsOperation, IsSource, later_by}
 use Rattle.value_match.proofs.Common.{le-ltb, length, length_enqueues, Life, life_from, List, lives_of}
 use Rattle.value_match.proofs.Common.{lt-ltb, ltb-false, ltb-true, map, MatchedValue, MatchOption, MAX_INITIAL}
-use Rattle.value_match.proofs.Common.{NamesChosenFresh, NamesChosenRepeat, nat_lt, None, NoneDid, Not, on, Operation}
+use Rattle.value_match.proofs.Common.{NamesChosenFresh, NamesChosenRepeat, nat_lt, None, NoneDid, EnqueueFailed, on, Operation}
 use Rattle.value_match.proofs.Common.{OpKind, Option, option_map, ORIGIN, Pair, place_of, PlacedLife}
 use Rattle.value_match.proofs.Common.{refl, repeat, RepeatPlaces, slice_get, slice_get-map, slice_get_within, Some}
-use Rattle.value_match.proofs.Common.{subst, suc, sym, timed, timeline, told_at, told_place, told_source, value_at}
+use Rattle.value_match.proofs.Common.{subst, suc, sym, timed, timeline, history_value, history_place, history_source, value_at}
 use Rattle.value_match.proofs.Common.{zero, ℕ, ⊤, ◌++◌, ◌+◌, ◌-◌, ◌<◌, ◌↔◌, ◌∙◌, ◌∷◌, ◌≡◌, ◌≢◌, ◌≤◌, ◌⊎◌}
 use Rattle.history_merge.proofs.Timelines.{timeline_is_complete}
 use Rattle.value_match.proofs.Agreeing.{Agree, agree_back, chosen_of, life_of, no_fresh_of, no_repeat_of}
@@ -31,11 +31,11 @@ use Rattle.value_match.specs.declared.violation.Violation.TheVariants as violati
 -- each life is an enqueue, with a dequeue if it has one
 abbrev pub AreLives : List Life → Type 0
 AreLives [] = ⊤
-AreLives (life ∷ cover) = ((v : ℕ) × ((enqueue_of life).kind ≡ Enq v)) × MatchOption (dequeue_of life) ⊤ (λ d. (v : ℕ) × (d.kind ≡ Deq v)) × AreLives cover
+AreLives (life ∷ cover) = ((v : ℕ) × ((enqueue_of life).kind ≡ Enqueue v)) × MatchOption (dequeue_of life) ⊤ (λ d. (v : ℕ) × (d.kind ≡ Dequeue v)) × AreLives cover
 
 -- the dequeue of a life, if there is one, is a dequeue
-pub dequeues : (operations : List Operation) (v : ℕ) (d : Option Operation) → MatchOption d (NoneDid operations (Deq v)) (λ d. Did operations d (Deq v))
-    → MatchOption d ⊤ (λ d. (v : ℕ) × (d.kind ≡ Deq v))
+pub dequeues : (operations : List Operation) (v : ℕ) (d : Option Operation) → MatchOption d (NoneDid operations (Dequeue v)) (λ d. Did operations d (Dequeue v))
+    → MatchOption d ⊤ (λ d. (v : ℕ) × (d.kind ≡ Dequeue v))
 dequeues operations v None none = tt
 dequeues operations v (Some d) did = (v, did.1)
 
@@ -209,7 +209,7 @@ few_initial (v ∷ rest) operations complete =
 
 -- a phantom dequeue is a dequeue
 pub fresh_dequeues : (operations : List Operation) (deq : Operation) (enq : Option Operation) → IsFreshViolation (on operations) deq enq
-    → (v : ℕ) × (deq.kind ≡ Deq v)
+    → (v : ℕ) × (deq.kind ≡ Dequeue v)
 fresh_dequeues operations deq None is = (is.value, is.dequeues.1)
 fresh_dequeues operations deq (Some enq) is = (is.value, is.dequeues.1)
 
@@ -272,10 +272,10 @@ module _ (initial : List ℕ) (operations : List Operation) where
 
   -- ---- the course of a history is that of its timeline
 
-  initial_kind : (j v : ℕ) (o : Operation) → initial_enqueue k j v ≡ o → o.kind ≡ Enq v
+  initial_kind : (j v : ℕ) (o : Operation) → initial_enqueue k j v ≡ o → o.kind ≡ Enqueue v
   initial_kind j v o is = sym (ap (λ (x : Operation). x.kind) is)
 
-  enters_on : (enq : Operation) (v : ℕ) → ComesIn initial operations enq v → Did all enq (Enq v)
+  enters_on : (enq : Operation) (v : ℕ) → ComesIn initial operations enq v → Did all enq (Enqueue v)
   enters_on enq v (inl (j, stands, is)) = (
     Contains-append_left (initial_enqueues initial) (timed operations) enq
         (subst (Contains (initial_enqueues initial)) is (enqueue_stands initial j v stands)),
@@ -283,17 +283,17 @@ module _ (initial : List ℕ) (operations : List Operation) where
   )
   enters_on enq v (inr did) = (Contains-append_right (initial_enqueues initial) (timed operations) enq did.0, did.1)
 
-  enters_back : (enq : Operation) (v : ℕ) → Did all enq (Enq v) → ComesIn initial operations enq v
+  enters_back : (enq : Operation) (v : ℕ) → Did all enq (Enqueue v) → ComesIn initial operations enq v
   enters_back enq v (among, is) = elim (Contains-append_cases (initial_enqueues initial) (timed operations) enq among) [
     | inl here ↦
         let found = enqueue_place initial enq here in
-        let kinds : Enq found.1 ≡ Enq v = sym (initial_kind found.0 found.1 enq found.3) ∙ is in
+        let kinds : Enqueue found.1 ≡ Enqueue v = sym (initial_kind found.0 found.1 enq found.3) ∙ is in
         let same : found.1 ≡ v = cc in
         inl (found.0, found.2 ∙ ap (λ w. Some w) same, ap (initial_enqueue k found.0) (sym same) ∙ found.3)
     | inr there ↦ inr (there, is)
   ]
 
-  did_back : (o : Operation) (kind : OpKind) → ((v : ℕ) → kind ≢ Enq v) → Did all o kind → Did (timed operations) o kind
+  did_back : (o : Operation) (kind : OpKind) → ((v : ℕ) → kind ≢ Enqueue v) → Did all o kind → Did (timed operations) o kind
   did_back o kind other (among, is) = elim (Contains-append_cases (initial_enqueues initial) (timed operations) o among) [
     | inl here ↦
         let found = enqueue_place initial o here in
@@ -327,7 +327,7 @@ module _ (initial : List ℕ) (operations : List Operation) where
   find_behind v time (w ∷ values) later = find_behind v (time + 1) values later
 
   life_on : (o : Operation) (kind : OpKind) → life_from all o kind ≡ life_from (timed operations) o kind
-  life_on o (Enq v) = ap (λ d. Some (record { enqueue = o; dequeue = d })) (find_behind v (ORIGIN - k) initial (timed operations))
+  life_on o (Enqueue v) = ap (λ d. Some (record { enqueue = o; dequeue = d })) (find_behind v (ORIGIN - k) initial (timed operations))
   life_on o _ = refl
 
   early_lives : (time : ℕ) (values : List ℕ)
@@ -350,7 +350,7 @@ module _ (initial : List ℕ) (operations : List Operation) where
 module _ (initial : List ℕ) (operations : List Operation) (few : length initial ≤ MAX_INITIAL) where
   -- an operation other than the enqueue of an initial value is after these
   pub stands_behind : (p : ℕ) (o : Operation) → IsAt (timeline initial operations) p o
-      → ((v : ℕ) → o.kind ≡ Enq v → o.call < ORIGIN → ⊥) → (length initial) ≤ p
+      → ((v : ℕ) → o.kind ≡ Enqueue v → o.call < ORIGIN → ⊥) → (length initial) ≤ p
   stands_behind p o at other = elim (timeline_at initial operations p o at) [
     | inl early ↦
         let call : initial_time (length initial) p ≡ o.call = ap (λ (x : Operation). x.call) early.is in
@@ -360,28 +360,28 @@ module _ (initial : List ℕ) (operations : List Operation) (few : length initia
   ]
 
   -- the operation at a place of the timeline after the initial values is one of the history
-  operation_told : (p : ℕ) (o : Operation) → IsAt (timeline initial operations) p o → (length initial) ≤ p → IsOperation operations (told_place (length initial) p) o
+  operation_told : (p : ℕ) (o : Operation) → IsAt (timeline initial operations) p o → (length initial) ≤ p → IsOperation operations (history_place (length initial) p) o
   operation_told p o at after =
       sym (get_behind (initial_enqueues initial) (timed operations) (length initial) p (sym (length_enqueues (ORIGIN - (length initial)) initial)) after) ∙ at
 
   -- an empty dequeue is at its translated place
-  pub empty_told : (p : ℕ) (o : Operation) → IsAt (timeline initial operations) p o → o.kind ≡ Empty → IsOperation operations (told_place (length initial) p) o
-  empty_told p o at is = operation_told p o at (stands_behind p o at (λ v enq early. let clash : Empty ≡ Enq v = sym is ∙ enq in cc))
+  pub empty_told : (p : ℕ) (o : Operation) → IsAt (timeline initial operations) p o → o.kind ≡ DequeueEmpty → IsOperation operations (history_place (length initial) p) o
+  empty_told p o at is = operation_told p o at (stands_behind p o at (λ v enq early. let clash : DequeueEmpty ≡ Enqueue v = sym is ∙ enq in cc))
 
   -- a dequeue is at its translated place
-  pub dequeue_told : (p : ℕ) (o : Operation) (v : ℕ) → IsAt (timeline initial operations) p o → o.kind ≡ Deq v
-      → IsOperation operations (told_place (length initial) p) o
-  dequeue_told p o v at is = operation_told p o at (stands_behind p o at (λ w enq early. let clash : Deq v ≡ Enq w = sym is ∙ enq in cc))
+  pub dequeue_told : (p : ℕ) (o : Operation) (v : ℕ) → IsAt (timeline initial operations) p o → o.kind ≡ Dequeue v
+      → IsOperation operations (history_place (length initial) p) o
+  dequeue_told p o v at is = operation_told p o at (stands_behind p o at (λ w enq early. let clash : Dequeue v ≡ Enqueue w = sym is ∙ enq in cc))
 
   -- an optional dequeue is at its translated place
-  pub maybe_told : (p : Option ℕ) (o : Option Operation) → IsMaybeAt (timeline initial operations) p o → MatchOption o ⊤ (λ d. (v : ℕ) × (d.kind ≡ Deq v))
-      → IsMaybeOperation operations (option_map (told_place (length initial)) p) o
+  pub maybe_told : (p : Option ℕ) (o : Option Operation) → IsMaybeAt (timeline initial operations) p o → MatchOption o ⊤ (λ d. (v : ℕ) × (d.kind ≡ Dequeue v))
+      → IsMaybeOperation operations (option_map (history_place (length initial)) p) o
   maybe_told None None at is = tt
   maybe_told (Some p) (Some o) at is = dequeue_told p o is.0 at is.1
   maybe_told _ _ at is = absurd at
 
   -- the enqueue of a value is at its translated source
-  pub source_told : (p : ℕ) (o : Operation) → IsAt (timeline initial operations) p o → IsSource initial operations (told_source (length initial) p) o
+  pub source_told : (p : ℕ) (o : Operation) → IsAt (timeline initial operations) p o → IsSource initial operations (history_source (length initial) p) o
   source_told p o at = elim (cases_Bool (nat_lt p (length initial))) [
     | inl is ↦ rw is (sym (early_at initial operations p (ltb-true p (length initial) is)) ∙ at)
     | inr is ↦ rw is (operation_told p o at (ltb-false p (length initial) is))
@@ -389,7 +389,7 @@ module _ (initial : List ℕ) (operations : List Operation) (few : length initia
 
   -- the operations of a value have translated places
   value_told : (value : PlacedLife) → HasPlaces (timeline initial operations) value → IsLife (on (timeline initial operations)) value.life
-      → IsNamed initial operations (told_source (length initial) value.enqueue) (option_map (told_place (length initial)) value.dequeue) value.life
+      → IsNamed initial operations (history_source (length initial) value.enqueue) (option_map (history_place (length initial)) value.dequeue) value.life
   value_told value at is = (
     source_told value.enqueue (enqueue_of value.life) at.0,
     maybe_told value.dequeue (dequeue_of value.life) at.1 (dequeues (timeline initial operations) is.0 (dequeue_of value.life) is.2),
@@ -399,26 +399,26 @@ module _ (initial : List ℕ) (operations : List Operation) (few : length initia
   pub call_told : (deq : ℕ) (d : Operation) (enq : Option ℕ) (e : Option Operation) → IsAt (timeline initial operations) deq d
       → IsMaybeAt (timeline initial operations) enq e
       → IsFreshViolation (on (timeline initial operations)) d e
-      → IsMaybeOperation operations (option_map (told_place (length initial)) enq) e
+      → IsMaybeOperation operations (option_map (history_place (length initial)) enq) e
   call_told deq d None None at_d at_e is = tt
   call_told deq d (Some p) (Some e) at_d at_e is = operation_told p e at_e (stands_behind p e at_e too_late)
     where
       late : ORIGIN ≤ d.ret
       late = elim (timeline_at initial operations deq d at_d) [
-        | inl early ↦ let clash : Enq early.value ≡ Deq is.value = ap (λ (x : Operation). x.kind) early.is ∙ is.dequeues.1 in absurd (cc)
+        | inl early ↦ let clash : Enqueue early.value ≡ Dequeue is.value = ap (λ (x : Operation). x.kind) early.is ∙ is.dequeues.1 in absurd (cc)
         | inr later ↦ let ret : later.operation.ret + ORIGIN ≡ d.ret = ap (λ (x : Operation). x.ret) later.is in omega arith
       ]
 
-      too_late : (v : ℕ) → e.kind ≡ Enq v → e.call < ORIGIN → ⊥
+      too_late : (v : ℕ) → e.kind ≡ Enqueue v → e.call < ORIGIN → ⊥
       too_late v enq early = elim is.enqueues [
-        | inl refused ↦ let clash : Not is.value ≡ Enq v = sym refused.1 ∙ enq in cc
+        | inl failed ↦ let clash : EnqueueFailed is.value ≡ Enqueue v = sym failed.1 ∙ enq in cc
         | inr accepted ↦ let after = accepted.1 in omega (arith, late)
       ]
   call_told _ _ _ _ _ at_e _ = absurd at_e
 
   -- the chosen phantom dequeue, at its translated places
   pub fresh_told : (found : FreshPlaces) → AreChosenFresh (timeline initial operations) found
-      → NamesChosenFresh initial operations (violation.Fresh (told_place (length initial) found.deq) (option_map (told_place (length initial)) found.enq))
+      → NamesChosenFresh initial operations (violation.Fresh (history_place (length initial) found.deq) (option_map (history_place (length initial)) found.enq))
   fresh_told found (deq, enq, at_deq, at_enq, chosen) = (
     deq,
     enq,
@@ -433,7 +433,7 @@ module _ (initial : List ℕ) (operations : List Operation) (few : length initia
   -- the chosen value that is dequeued twice, at its translated places
   pub repeat_told : (found : RepeatPlaces) → AreChosenRepeat (timeline initial operations) found
       → NamesChosenRepeat initial operations
-      (violation.Repeat (told_source (length initial) found.enq) (told_place (length initial) found.first) (told_place (length initial) found.second))
+      (violation.Repeat (history_source (length initial) found.enq) (history_place (length initial) found.first) (history_place (length initial) found.second))
   repeat_told found (enq, first, second, at_enq, at_first, at_second, none, chosen) =
       let is = chosen.violates in (
         enq,
@@ -447,19 +447,19 @@ module _ (initial : List ℕ) (operations : List Operation) (few : length initia
         chosen_of (on (timeline initial operations)) (course initial operations) (course_back initial operations) (repeat enq first second) (none, chosen),
       )
 
-  told_lives : (pairs : List Pair) → map (λ m. m.life) (map (told_at (length initial) (timeline initial operations)) pairs)
+  told_lives : (pairs : List Pair) → map (λ m. m.life) (map (history_value (length initial) (timeline initial operations)) pairs)
       ≡ map (λ m. m.life) (map (value_at (timeline initial operations)) pairs)
   told_lives [] = refl
   told_lives (pair ∷ pairs) = ap (λ lives. (value_at (timeline initial operations) pair).life ∷ lives) (told_lives pairs)
 
   -- the values of a matching are those of its history
   pub values_told : (pairs : List Pair) → HoldsLives (timeline initial operations) (map (value_at (timeline initial operations)) pairs)
-      → HoldsValues (record { initial = initial; operations = operations }) (map (told_at (length initial) (timeline initial operations)) pairs)
+      → HoldsValues (record { initial = initial; operations = operations }) (map (history_value (length initial) (timeline initial operations)) pairs)
   values_told pairs holds = record {
     lives = told_lives pairs ∙ holds.0 ∙ same_lives initial operations;
     named = λ i d within.
-        let (pair, among, is) = mapped_from (told_at (length initial) (timeline initial operations)) pairs
-        (get_or (map (told_at (length initial) (timeline initial operations)) pairs) i d) (Contains-get_or _ i d within) in
+        let (pair, among, is) = mapped_from (history_value (length initial) (timeline initial operations)) pairs
+        (get_or (map (history_value (length initial) (timeline initial operations)) pairs) i d) (Contains-get_or _ i d within) in
         let placed = mapped_to (value_at (timeline initial operations)) pairs pair among in
         subst (λ m. IsNamed initial operations m.source m.dequeue m.life) is
         (value_told (value_at (timeline initial operations) pair)
@@ -472,7 +472,7 @@ module _ (initial : List ℕ) (operations : List Operation) (few : length initia
 
   -- operations of the history, found in the timeline, are at their translated places
   places_told : (places : List ℕ) (listed : List Operation) → ArePlacesOf (timeline initial operations) places (map (later_by ORIGIN) listed)
-      → ArePlacesOf operations (map (told_place (length initial)) places) listed
+      → ArePlacesOf operations (map (history_place (length initial)) places) listed
   places_told [] [] at = refl
   places_told (p ∷ places) (o ∷ listed) at =
       let first : slice_get (timeline initial operations) p ≡ Some (later_by ORIGIN o) = cc in
@@ -488,7 +488,7 @@ module _ (initial : List ℕ) (operations : List Operation) (few : length initia
   places_told _ _ at = absurd (cc)
 
   -- operations of the timeline that pass a test, which no enqueue passes, are those of the history
-  filter_timeline : (test : Operation → Bool) → ((o : Operation) (v : ℕ) → o.kind ≡ Enq v → test o ≡ false)
+  filter_timeline : (test : Operation → Bool) → ((o : Operation) (v : ℕ) → o.kind ≡ Enqueue v → test o ≡ false)
       → ((o : Operation) → test (later_by ORIGIN o) ≡ test o)
       → filter test (timeline initial operations) ≡ map (later_by ORIGIN) (filter test operations)
   filter_timeline test none same =
@@ -502,15 +502,15 @@ module _ (initial : List ℕ) (operations : List Operation) (few : length initia
 
   -- the translated places of the empty dequeues
   pub empties_told : (places : List ℕ) → HoldsPlaces (timeline initial operations) is_empty_answer places
-      → HoldsPlaces operations is_empty_answer (map (told_place (length initial)) places)
+      → HoldsPlaces operations is_empty_answer (map (history_place (length initial)) places)
   empties_told places holds = places_told places (filter is_empty_answer operations)
       (subst (ArePlacesOf (timeline initial operations) places) (filter_timeline is_empty_answer (λ o v is. rw is refl) (λ o. refl)) holds)
 
   -- the translated places of the failed enqueues
-  pub refused_told : (places : List ℕ) → HoldsPlaces (timeline initial operations) is_refused places
-      → HoldsPlaces operations is_refused (map (told_place (length initial)) places)
-  refused_told places holds = places_told places (filter is_refused operations)
-      (subst (ArePlacesOf (timeline initial operations) places) (filter_timeline is_refused (λ o v is. rw is refl) (λ o. refl)) holds)
+  pub failed_told : (places : List ℕ) → HoldsPlaces (timeline initial operations) is_failed places
+      → HoldsPlaces operations is_failed (map (history_place (length initial)) places)
+  failed_told places holds = places_told places (filter is_failed operations)
+      (subst (ArePlacesOf (timeline initial operations) places) (filter_timeline is_failed (λ o v is. rw is refl) (λ o. refl)) holds)
 
 -- ---- a history is complete if and only if its timeline is, and has the timeline's lives
 

@@ -2,7 +2,7 @@
 ghost use Rattle.std.specs.Prelude.{◌≡◌, false};
 ghost use Rattle.commands.specs.Answers.{memory_fault};
 ghost use Rattle.commands.specs.Running.{Prints, PrintsAnswer, WritesAndFlushes, no_text};
-ghost use Rattle.commands.specs.declared.words.StartFault.TheVariants.{NoText, Memory};
+ghost use Rattle.commands.specs.declared.args.StartFault.TheVariants.{NoText, Memory};
 
 use crate::print::{print_memory, print_text};
 use crate::stderr::{Terminals, tell};
@@ -28,13 +28,13 @@ pub enum StartFault {
 }
 
 /// Returns the arguments, the program's name first.
-pub fn words_of<R: Env + AllocGlobal>(rt: &R) -> Result<Vec<String>, StartFault> {
-    let words = match env::args(rt) {
-        Ok(words) => words,
+pub fn args_of<R: Env + AllocGlobal>(rt: &R) -> Result<Vec<String>, StartFault> {
+    let args = match env::args(rt) {
+        Ok(args) => args,
         Err(error) if error.kind() == ErrorKind::OutOfMemory => return Err(StartFault::Memory),
         Err(_) => return Err(StartFault::NoText),
     };
-    words.collect(rt.alloc()).map_err(|_| StartFault::Memory)
+    args.collect(rt.alloc()).map_err(|_| StartFault::Memory)
 }
 
 /// Writes why a command can't begin to both streams, flushes the writer, and returns the status.

@@ -36,7 +36,7 @@ pub(crate) struct Measures {
 
 /// A scene, and its measures.
 #[derive(Clone, Copy)]
-pub(crate) struct Sheet<'a> {
+pub(crate) struct Canvas<'a> {
     /// The allocator of its words.
     pub alloc: Global,
     pub measures: Measures,

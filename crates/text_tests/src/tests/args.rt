@@ -25,14 +25,14 @@ const BOTH: Condition = Condition {
 
 /// Returns whether the command line asks for this task, and for this kind of answer.
 fn asks_for(alloc: Global, line: &str, task: Task<'_>, is_quiet: bool) -> Result<bool, Fail> {
-    let words: Vec<&str> = line.split_whitespace().collect(alloc)?;
-    Ok(order_in(alloc, &words)? == Order { task, is_quiet })
+    let args: Vec<&str> = line.split_whitespace().collect(alloc)?;
+    Ok(order_in(alloc, &args)? == Order { task, is_quiet })
 }
 
 /// Returns whether the command line has a fault of this kind. Out of memory is an error of its own.
 fn has_fault(alloc: Global, line: &str, kind: ErrorKind) -> Result<bool, AllocError> {
-    let words: Vec<&str> = line.split_whitespace().collect(alloc)?;
-    match order_in(alloc, &words) {
+    let args: Vec<&str> = line.split_whitespace().collect(alloc)?;
+    match order_in(alloc, &args) {
         Ok(_) => Ok(false),
         Err(error) if error.kind() == ErrorKind::OutOfMemory => Err(AllocError),
         Err(error) => Ok(error.kind() == kind),

@@ -1,4 +1,4 @@
-use commands::{StartFault, Terminals, print_start_fault, words_of};
+use commands::{StartFault, Terminals, args_of, print_start_fault};
 use history_text::Watched;
 use std::alloc::Global;
 use std::env::{Env, FillError};
@@ -6,12 +6,12 @@ use std::env::{Env, FillError};
 /// Arguments of a command line, and no variables.
 #[derive(Drop)]
 struct Given<'a> {
-    words: &'a [&'a [u8]],
+    args: &'a [&'a [u8]],
 }
 
 impl Env for Given<'_> {
     fn arg(&self, i: usize, buf: &mut [u8]) -> Result<usize, FillError> {
-        let Some(word) = self.words.get(i) else {
+        let Some(word) = self.args.get(i) else {
             return Err(FillError::NotPresent);
         };
         if word.len() > buf.len() {
@@ -31,11 +31,11 @@ impl Env for Given<'_> {
 }
 
 /// Returns the number of arguments and whether the second is this word, or the fault if there are none.
-fn read(alloc: Global, words: &[&[u8]], word: &str) -> Result<(usize, bool), StartFault> {
-    let words = words_of(&(Given { words }, alloc))?;
-    let second = words.as_slice().get(1);
+fn read(alloc: Global, args: &[&[u8]], word: &str) -> Result<(usize, bool), StartFault> {
+    let args = args_of(&(Given { args }, alloc))?;
+    let second = args.as_slice().get(1);
     Ok((
-        words.len(),
+        args.len(),
         second.is_some_and(|second| second.as_str() == word),
     ))
 }

@@ -7,9 +7,9 @@ ghost use Rattle.event_records.specs.declared.limits.TheConstants.{MAX_THREADS};
 use crate::bands::Band;
 use crate::columns::Columns;
 use crate::scene::Row;
+use claims::Claimed;
 use history_merge::Operation;
 use std::alloc::Global;
-use claims::Claimed;
 
 /// The content of a picture of a history and a claim.
 #[derive(Drop)]
@@ -33,7 +33,7 @@ pub struct Scene<'a> {
 
 /// A scene, and its columns.
 #[derive(Clone, Copy)]
-pub(crate) struct Sheet<'a> {
+pub(crate) struct Canvas<'a> {
     /// The allocator of its words.
     pub alloc: Global,
     pub columns: Columns,

@@ -15,10 +15,10 @@ abbrev pub behind : ℕ → ℕ → ℕ
 behind initial_count place = initial_count + place
 
 -- the place of an operation in the history, without this many initial values
-abbrev pub told_place : ℕ → ℕ → ℕ
-told_place initial_count place = place - initial_count
+abbrev pub history_place : ℕ → ℕ → ℕ
+history_place initial_count place = place - initial_count
 
 -- the source of a value whose enqueue has this place in the timeline; the first enqueues are those of the initial
 -- values
-abbrev pub told_source : ℕ → ℕ → Source
-told_source initial_count place = if nat_lt place initial_count then Initial place else Enq (told_place initial_count place)
+abbrev pub history_source : ℕ → ℕ → Source
+history_source initial_count place = if nat_lt place initial_count then Initial place else Enq (history_place initial_count place)

@@ -4,7 +4,7 @@ use Rattle.tickets.specs.declared.note.Effect.TheVariants as effect
 use Rattle.history_merge.specs.Queue.{accept_all}
 use Rattle.stress_run.specs.Noted.{kinds_noted}
 use Rattle.stress_run.proofs.Accepting.{legal_more, take_accepts, none_accepts}
-use Rattle.stress_run.proofs.proved.Desk.dequeue.Goals as goal
+use Rattle.stress_run.proofs.proved.LockedLog.dequeue.Goals as goal
 
 pub invariant_of-self : goal.invariant_of-self
 invariant_of-self g c = record {

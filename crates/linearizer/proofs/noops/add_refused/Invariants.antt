@@ -1,5 +1,0 @@
-use Rattle.linearizer.proofs.Common.{Adds, filter, is_refused, take, timed}
-use Rattle.linearizer.proofs.noops.add_refused.Given as goal
-
-abbrev pub invariant-loop-at : goal.invariant-loop-at
-invariant-loop-at l = Adds l.matching (take l.at (filter is_refused (timed l.matching.operations))) l.initial.noops.items l.noops.items
