@@ -17,7 +17,7 @@
 # the last line says how busy it was.
 set -euo pipefail
 here=$(cd "$(dirname "${BASH_SOURCE[0]}")" && pwd)
-. "$here/../extras/heads"
+. "$here/../tools/heads"
 program=$(realpath "${1:-$here/../crates/fifobench/out/fifobench}")
 if [ ! -x "$program" ]; then
   echo "bench: no program at $program" >&2

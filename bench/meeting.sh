@@ -9,7 +9,7 @@
 # something on an idle machine alone: the last line says how busy it was.
 set -euo pipefail
 top=$(cd "$(dirname "${BASH_SOURCE[0]}")/.." && pwd)
-. "$top/extras/heads"
+. "$top/tools/heads"
 folder=$(mktemp -d)
 trap 'rm -rf "$folder"' EXIT
 rustc --edition 2021 -O "$top/bench/plain_recorder.rs" -o "$folder/plain_recorder"

@@ -22,7 +22,7 @@
 # rustc and python3. The figures mean something on an idle machine only.
 set -euo pipefail
 here=$(cd "$(dirname "${BASH_SOURCE[0]}")" && pwd)
-. "$here/../extras/heads"
+. "$here/../tools/heads"
 program=$(realpath "${1:-$here/../crates/fifobench/out/fifobench}")
 if [ ! -x "$program" ]; then
   echo "bench: no program at $program" >&2

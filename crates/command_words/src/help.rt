@@ -3,7 +3,7 @@
 
 /// The version of the program, as in CHANGELOG.md. The second line names the logic in which its proofs are checked,
 /// which the kit's own name doesn't show.
-pub(crate) const VERSION: &str = "0.2.0\nproved in the Rattle logic dac8208d650f15bf";
+pub(crate) const VERSION: &str = "0.3.0\nproved in the Rattle logic dac8208d650f15bf";
 
 pub(crate) const ABOUT: &str = "Records and judges histories of a concurrent FIFO queue";
 

@@ -1,4 +1,4 @@
-//! Tests of the program that need more than files. All other cases are in extras/answers.
+//! Tests of the program that need more than files. All other cases are in tests/answers.
 mod args;
 mod inputs;
 mod recorded;

@@ -1,4 +1,4 @@
-//! The page around a picture, made by `extras/page --write` from the files of the crate's folder `page`.
+//! The page around a picture, made by `tools/page --write` from the files of the crate's folder `page`.
 
 /// The page up to the picture.
 pub(crate) const PAGE_HEAD: &[u8] = b"<!DOCTYPE html>\n\

@@ -1,4 +1,4 @@
-// `extras/answers` compares more pictures in characters, and `extras/pictures/run` compares the ends of SVG
+// `tests/answers` compares more pictures in characters, and `tests/pictures/run` compares the ends of SVG
 // documents.
 ghost use Rattle.std.specs.Prelude.{◌≤◌, IfOk};
 ghost use Rattle.drawing.specs.Claim.{count_of_lines};
@@ -183,7 +183,7 @@ viewBox=\"0 0 588 338\" role=\"img\">\
 <title>NO: a value was dequeued that was not there</title>\n\
 <desc>7 was dequeued (1), but nobody ever enqueued it.\n</desc>\n<style>";
 
-/// Returns the SVG document and the page of a history's text and its verdict's. `extras/pictures/run` compares the
+/// Returns the SVG document and the page of a history's text and its verdict's. `tests/pictures/run` compares the
 /// picture in the page.
 fn documents_of(
     alloc: Global,

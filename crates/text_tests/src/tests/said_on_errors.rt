@@ -1,4 +1,4 @@
-//! The text on standard error, with ample memory. The words of each message are in extras/answers.
+//! The text on standard error, with ample memory. The words of each message are in tests/answers.
 use event_records::{Event, What};
 use history_merge::{Clash, HistoryFault, Placed};
 use history_text::{MemorySource, TextFault, TextSource};

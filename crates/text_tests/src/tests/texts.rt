@@ -1,4 +1,4 @@
-//! Texts of histories and verdicts, read and written. The faults of other texts are in extras/answers.
+//! Texts of histories and verdicts, read and written. The faults of other texts are in tests/answers.
 ghost use Rattle.std.specs.Prelude.{◌≡◌, ◌∷◌, [], IfOk};
 ghost use Rattle.history_text.specs.declared.version.Version.TheVariants.{One};
 ghost use Rattle.claims.specs.declared.shown.LinePlace.TheVariants.{Op};

@@ -1,4 +1,4 @@
-//! Texts of verdicts, read. The faults of other texts, and which texts are evidence, are in extras/answers.
+//! Texts of verdicts, read. The faults of other texts, and which texts are evidence, are in tests/answers.
 ghost use Rattle.std.specs.Prelude.{◌<◌};
 
 use super::outcomes::{Outcome, assert_failures, known};
