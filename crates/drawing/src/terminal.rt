@@ -133,7 +133,8 @@ fn event_sign(canvas: &Canvas<'_>, ticket: u64, operation: Operation) -> Result<
 
 /// Returns the sign in a lane in a row, where `under` is the operation that is under way.
 fn lane_sign(canvas: &Canvas<'_>, row: Row, under: Option<Operation>) -> Result<Vec<u8>, AllocError>
-    ensures { IfOk result (λ word. word.items ≡ lane_sign canvas.now.columns (scene_on canvas.now.scene.now) row under) }
+    ensures { IfOk result
+        (λ word. word.items ≡ lane_sign canvas.now.columns (scene_on canvas.now.scene.now) row under) }
 {
     match (row, under) {
         (Row::Ticket(ticket), Some(operation)) => event_sign(canvas, ticket, operation),
@@ -172,7 +173,8 @@ fn lane_column(canvas: &Canvas<'_>, thread: u8) -> usize
 /// Places the signs in the lanes of a row.
 fn place_lanes(line: &mut Vec<u8>, canvas: &Canvas<'_>, row: Row) -> Added
     ensures { OnOk result
-        (line.new.items ≡ with_words line.old.items (lane_words canvas.now.columns (scene_on canvas.now.scene.now) row)) }
+        (line.new.items
+        ≡ with_words line.old.items (lane_words canvas.now.columns (scene_on canvas.now.scene.now) row)) }
 {
     let operations = canvas.scene.operations.as_slice();
     let threads = canvas.scene.threads.as_slice();
@@ -214,7 +216,7 @@ fn beside_words(alloc: Global, claimed: &Claimed, row: Row) -> Result<Vec<u8>, A
     }
 }
 
-/// Returns the label of an operation, and whether its call is pending.
+/// Returns the label of an operation, with a word after it if its call is pending.
 fn operation_label(canvas: &Canvas<'_>, operation: Operation) -> Result<Vec<u8>, AllocError>
     ensures { IfOk result (λ word. word.items ≡ operation_label (scene_on canvas.now.scene.now) operation) }
 {
@@ -347,7 +349,8 @@ fn push_names(text: &mut Vec<u8>, canvas: &Canvas<'_>, tens: bool) -> Added
 /// Appends the heads of the bands, and those of the tickets and lanes.
 #[tactic(auto, using(crate::proofs::Loops::steps), unfolding(crate::specs::Terminal::heads))]
 fn push_heads(text: &mut Vec<u8>, canvas: &Canvas<'_>) -> Added
-    ensures { OnOk result (text.new.items ≡ text.old.items ++ heads canvas.now.columns (scene_on canvas.now.scene.now)) }
+    ensures { OnOk result
+        (text.new.items ≡ text.old.items ++ heads canvas.now.columns (scene_on canvas.now.scene.now)) }
 {
     for (i, band) in canvas.scene.bands.as_slice().iter().enumerate() {
         let word = head_words(canvas.alloc, band.head)?;
@@ -376,7 +379,8 @@ fn push_heads(text: &mut Vec<u8>, canvas: &Canvas<'_>) -> Added
 #[tactic(auto, unfolding(crate::specs::Terminal::row_words))]
 fn place_row(line: &mut Vec<u8>, canvas: &Canvas<'_>, row: Row) -> Added
     ensures { OnOk result
-        (line.new.items ≡ with_words line.old.items (row_words canvas.now.columns (scene_on canvas.now.scene.now) row)) }
+        (line.new.items
+        ≡ with_words line.old.items (row_words canvas.now.columns (scene_on canvas.now.scene.now) row)) }
 {
     let tickets = ticket_words(canvas.alloc, canvas.scene.added_from, row)?;
     let column = canvas.columns.ticket.saturating_sub(tickets.len());
@@ -441,7 +445,8 @@ fn push_signs(text: &mut Vec<u8>, canvas: &Canvas<'_>) -> Added
 /// Appends the legend of the picture.
 #[tactic(auto, unfolding(crate::specs::Terminal::legend))]
 fn push_legend(text: &mut Vec<u8>, canvas: &Canvas<'_>) -> Added
-    ensures { OnOk result (text.new.items ≡ text.old.items ++ legend canvas.now.columns (scene_on canvas.now.scene.now)) }
+    ensures { OnOk result
+        (text.new.items ≡ text.old.items ++ legend canvas.now.columns (scene_on canvas.now.scene.now)) }
 {
     text.extend_from_slice(LANE_MEANINGS)?;
     text.extend_from_slice(effect_meaning(canvas.columns.lane == 1, canvas.scene.claimed))?;
@@ -451,7 +456,8 @@ fn push_legend(text: &mut Vec<u8>, canvas: &Canvas<'_>) -> Added
 /// Appends the text above the rows: headline, caption and legend.
 #[tactic(auto, unfolding(crate::specs::Terminal::words))]
 fn push_words(text: &mut Vec<u8>, canvas: &Canvas<'_>) -> Added
-    ensures { OnOk result (text.new.items ≡ text.old.items ++ words canvas.now.columns (scene_on canvas.now.scene.now)) }
+    ensures { OnOk result
+        (text.new.items ≡ text.old.items ++ words canvas.now.columns (scene_on canvas.now.scene.now)) }
 {
     push_line(text, headline(canvas.scene.claimed))?;
     push_caption(text, canvas.scene.added_from, canvas.scene.claimed)?;

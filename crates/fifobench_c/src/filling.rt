@@ -47,7 +47,7 @@ fn bad_what(alloc: Global, place: usize) -> Result<Vec<u8>, AllocError>
     Ok(text)
 }
 
-/// Writes a text and returns its status, or writes that memory ran out for it, whose text takes no memory.
+/// Writes a text and returns its status. If memory ran out for the text, writes that, which takes no memory.
 fn tell_text(
     text: Result<Vec<u8>, AllocError>,
     status: u8,

@@ -92,7 +92,8 @@ fn push_effect(
     number: u64,
 ) -> Added
     requires { y ≤ 2 ^ 91 }
-    ensures { OnOk result (text.new.items ≡ text.old.items ++ text_of (effect (page_on canvas.now) y operation number)) }
+    ensures { OnOk result
+        (text.new.items ≡ text.old.items ++ text_of (effect (page_on canvas.now) y operation number)) }
 {
     let blanks = u128::from(canvas.measures.number.saturating_sub(digits(number)));
     let left = shown(canvas.measures) + 7 * blanks;

@@ -22,7 +22,7 @@ pub(crate) struct FreshPlaces {
 }
 
 /// Returns the phantom dequeue that returns first, if there is one. `sources` are those of the operations after the
-/// matched prefix, of which none is a phantom dequeue.
+/// matched prefix, which has no phantom dequeue.
 pub(crate) fn first_fresh(
     operations: &[PackedOperation],
     prefix: usize,

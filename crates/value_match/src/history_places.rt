@@ -41,7 +41,8 @@ pub(crate) fn history_source(initial_count: usize, enqueue: OpId) -> Source
 
 /// Returns the violation that a phantom dequeue is.
 pub(crate) fn fresh_violation(initial_count: usize, found: FreshPlaces) -> Violation
-    ensures { result ≡ Fresh (history_place initial_count found.deq) (option_map (history_place initial_count) found.enq) }
+    ensures { result ≡ Fresh (history_place initial_count found.deq)
+        (option_map (history_place initial_count) found.enq) }
 {
     Violation::Fresh {
         deq: history_place(initial_count, found.deq),

@@ -134,8 +134,8 @@ fn shows_order(history: &History, lines: &[ClaimLine]) -> bool
         && leaves_after(history, *deq_b, a, deq_a)
 }
 
-/// Returns whether `deq` is one line, the dequeue of the value, which another line precedes; or no line, and the
-/// value is never dequeued.
+/// Returns whether `deq` is one line, a dequeue of the value that `line` precedes, or no line, and no dequeue of the
+/// value is in the history.
 fn leaves_after(history: &History, line: ClaimLine, value: u64, deq: &[ClaimLine]) -> bool
     ensures { IsTrue result ↔ LeavesAfter history.now.initial (operations_of history.now.events) line value deq.now }
 {

@@ -95,7 +95,7 @@ fn are_same_values(values: &Values, plain: &[MatchedValue]) -> bool {
     true
 }
 
-/// Returns whether the sweep and plain scans find the same of all empty dequeues.
+/// Returns whether the sweep and plain scans agree on all empty dequeues.
 fn are_same_windows(
     alloc: Global,
     matching: &Matching,
@@ -118,7 +118,7 @@ fn is_same_witness(found: &WitnessAnswer, plain: &PlainWitness) -> bool {
     }
 }
 
-/// Returns whether the sweep and plain scans find the same of the window of each empty dequeue.
+/// Returns whether the sweep and plain scans agree on the window of each empty dequeue.
 fn are_same_gaps(
     alloc: Global,
     matching: &Matching,
@@ -135,7 +135,7 @@ fn are_same_gaps(
     Ok(true)
 }
 
-/// Returns whether plain scans find the same of the window of an empty dequeue.
+/// Returns whether plain scans find the same in the window of an empty dequeue.
 fn is_same_gap(
     alloc: Global,
     matching: &Matching,
