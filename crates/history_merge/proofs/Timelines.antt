@@ -278,15 +278,15 @@ LeadAll [] others = ⊤
 LeadAll (x ∷ leading) others = All (λ o. Precedes x o × ¬ (Precedes o x)) (leading ++ others) × LeadAll leading others
 
 -- the operations are enqueues of these values
-abbrev pub Enqueue : List ℕ → List Operation → Type 0
-Enqueue [] [] = ⊤
-Enqueue [] (x ∷ leading) = ⊥
-Enqueue (v ∷ values) [] = ⊥
-Enqueue (v ∷ values) (x ∷ leading) = (x.kind ≡ Enqueue v) × Enqueue values leading
+abbrev pub AreEnqueuesOf : List ℕ → List Operation → Type 0
+AreEnqueuesOf [] [] = ⊤
+AreEnqueuesOf [] (x ∷ leading) = ⊥
+AreEnqueuesOf (v ∷ values) [] = ⊥
+AreEnqueuesOf (v ∷ values) (x ∷ leading) = (x.kind ≡ Enqueue v) × AreEnqueuesOf values leading
 
 -- each linearization begins with enqueues that precede all other operations in turn, and continues from the queue
 -- with their values
-pub enqueues_begin : (queue values : List ℕ) (leading others order : List Operation) → Enqueue values leading → LeadAll leading others
+pub enqueues_begin : (queue values : List ℕ) (leading others order : List Operation) → AreEnqueuesOf values leading → LeadAll leading others
     → IsLegalOrder queue (leading ++ others) order
     → (rest : List Operation) × (order ≡ leading ++ rest) × IsLegalOrder (queue ++ values) others rest
 enqueues_begin queue [] [] others order kinds lead legal = grind (arith, append-nil)
@@ -301,7 +301,7 @@ enqueues_begin queue (v ∷ values) (x ∷ leading) others order kinds lead lega
     )
 
 -- such enqueues may come first
-pub enqueues_put : (queue values : List ℕ) (leading others rest : List Operation) → Enqueue values leading → LeadAll leading others
+pub enqueues_put : (queue values : List ℕ) (leading others rest : List Operation) → AreEnqueuesOf values leading → LeadAll leading others
     → IsLegalOrder (queue ++ values) others rest → IsLegalOrder queue (leading ++ others) (leading ++ rest)
 enqueues_put queue [] [] others rest kinds lead legal = subst (λ q. IsLegalOrder q others rest) (append-nil queue) legal
 enqueues_put queue [] (x ∷ leading) others rest kinds lead legal = absurd kinds
@@ -328,7 +328,7 @@ lead_all : (time n : ℕ) (values : List ℕ) (operations : List Operation) → 
 lead_all time n [] operations after = tt
 lead_all time n (v ∷ values) operations after = grind (arith, all_from, lead_all (time + 1) n values operations)
 
-enqueue_all : (time : ℕ) (values : List ℕ) → Enqueue values (enqueues_from time values)
+enqueue_all : (time : ℕ) (values : List ℕ) → AreEnqueuesOf values (enqueues_from time values)
 enqueue_all time [] = tt
 enqueue_all time (v ∷ values) = (refl, enqueue_all (time + 1) values)
 
