@@ -6,7 +6,7 @@
 mod Told
 mod Noting
 mod Accepting
-mod Proving
+mod Ended
 mod Composed
 mod Once
 mod Zipped

@@ -157,7 +157,7 @@ fn run_two_locks<R: Threads + Wait + Sync>(
 }
 
 // Runs a plan on nodes without a lock, which hold these values at first.
-#[tactic(auto, using(crate::proofs::Proving::no_mark))]
+#[tactic(auto, using(crate::proofs::Ended::no_mark))]
 fn run_lock_free<R: Threads + Sync>(
     rt: &R,
     alloc: Global,

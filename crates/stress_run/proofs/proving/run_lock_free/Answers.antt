@@ -1,7 +1,7 @@
-use Rattle.std.proofs.Common.{List, ℕ, sym, subst, refl}
+use Rattle.std.proofs.Common.{List, ℕ, subst, refl, ◌∙◌}
 use Rattle.history_merge.specs.Queue.{IsAccepted}
 use Rattle.stress_run.proofs.Accepting.{noted_accepted}
-use Rattle.stress_run.proofs.Proving.{proved_run}
+use Rattle.stress_run.proofs.Ended.{proved_run}
 use Rattle.stress_run.proofs.proving.run_lock_free.Goals as goal
 
 pub returns-clause-proved : goal.returns-clause-proved
@@ -11,4 +11,4 @@ returns-clause-proved g c =
     let drawn = c.close_with_shared_nodes-total.ensures.drawn in
     let end = c.close_with_shared_nodes-total.ensures.log in
     proved_run _ _ _ _ _ _ _ _ c.requires.sizes c.requires.names (run.recorded total drawn) (run.lists total drawn) (run.told refl) end.1 end.2
-    (noted_accepted _ end.0 end.3)
+    (subst (λ (values : List ℕ). IsAccepted values _) (c.in_ok-tickets.ensures.initial ∙ c.as_slice.ensures.value) (noted_accepted _ end.0 end.3))

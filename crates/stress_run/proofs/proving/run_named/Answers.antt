@@ -1,6 +1,6 @@
 use Rattle.std.proofs.Common.{List, ℕ, sym, subst, refl}
 use Rattle.history_merge.specs.Queue.{IsAccepted}
-use Rattle.stress_run.proofs.Proving.{proved_run}
+use Rattle.stress_run.proofs.Ended.{proved_run}
 use Rattle.stress_run.proofs.proving.run_named.Goals as goal
 
 pub returns-clause-proved : goal.returns-clause-proved
