@@ -6,6 +6,7 @@ is('the headline', 'NO: an empty answer while the queue was never empty', by('he
 is('the lines', 'thread 1: empty, tickets 2 to 9; thread 0: enq 7, tickets 0 to 1; thread 0: deq 7, tickets 5 to 6; '
   + 'thread 0: enq 9, tickets 3 to 4; thread 0: deq 9, tickets 10 to 11', buttons.map(b => b.textContent).join('; '));
 is('what names mean', true, by('names').hidden);
+is('that each is numbered', true, by('around').hidden);
 is('what is copied', REPORT, by('text').value);
 is('what is asked for elsewhere', 0, performance.getEntriesByType('resource').filter(e => !e.name.startsWith('data:')).length);
 is('its background', BACKGROUND, getComputedStyle(svg).backgroundColor);

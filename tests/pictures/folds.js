@@ -17,6 +17,7 @@ const before = high();
 is('the rows', FOLDED, ticketsShown());
 is('the threads', 'thread 1,thread 2', threadsShown());
 is('what says how', false, by('open').hidden);
+is('that others surround the numbered ones', false, by('around').hidden);
 
 click(folds()[0]);
 is('the rows of the first fold', '0,1,2,3,4,5,6,7,... 2 events ...,end', ticketsShown());

@@ -67,6 +67,9 @@ for (const bar of numbered) {
   by('lines').append(line);
 }
 
+// With NO, the others are the surroundings.
+by('around').hidden = isYes || all.length === numbered.length;
+
 // What names of values mean, by the first one that is no number.
 const named = [...numbered, ...bars].find(bar => bar.value && nameOf(bar.value) !== bar.value);
 if (named) {

@@ -71,6 +71,7 @@ main g[data-same] rect:not(.pill) { stroke: var(--same-edge); stroke-width: 4; s
 </div>\n\
 <p>The numbered operations:</p>\n\
 <ol id='lines'></ol>\n\
+<p id='around' hidden>Operations without a number surround these, and aren't in the text below.</p>\n\
 <p id='names' hidden></p>\n\
 <details>\n\
 <summary>what shows it, as text</summary>\n\
@@ -221,7 +222,7 @@ for (const bar of numbered) {\n\
 const line = document.createElement('li'), button = document.createElement('button');\n\
 button.textContent = sentence({...bar, number: 0}, nameOf); button.title = sentence(bar, withNumber);\n\
 button.addEventListener('click', () => { choose(bar); showBar(bar); }); line.append(button);\n\
-by('lines').append(line); }\n\
+by('lines').append(line); } by('around').hidden = isYes || all.length === numbered.length;\n\
 const named = [...numbered, ...bars].find(bar => bar.value && nameOf(bar.value) !== bar.value); if (named) {\n\
 const [thread, number] = nameOf(named.value).split(':');\n\
 const what = thread === 'init' ? 'initial value ' + number : 'value ' + number + ' of thread ' + thread;\n\
