@@ -3,6 +3,7 @@ use crate::complaints::{Given, Reads};
 use crate::input::{end_line, line_of};
 use crate::message::Blank::{Number, Shown, Words};
 use crate::message::Message;
+use crate::text_faults::format_hint;
 use std::alloc::{AllocError, Global};
 
 /// Names the text that is read first.
@@ -30,12 +31,12 @@ fn line_feeds(bytes: &[u8]) -> usize {
 fn within_line(alloc: Global, given: &Given<'_>) -> Result<Message, AllocError> {
     let number = (line_feeds(given.front) as u64).saturating_add(1);
     let line = line_of(given, number).unwrap_or(b"");
-    Message::of(
-        alloc,
-        "the input ends within line {}: '{}'",
-        &[Number(number), Shown(line)],
-        "each line ends with a line feed, the last one too",
-    )
+    let hint = match format_hint(given.front) {
+        Some(hint) => hint,
+        None => "each line ends with a line feed, the last one too",
+    };
+    let blanks = [Number(number), Shown(line)];
+    Message::of(alloc, "the input ends within line {}: '{}'", &blanks, hint)
 }
 
 /// Builds the message for an input that ends after a whole line.

@@ -12,8 +12,8 @@ const BY_TICKET: &str =
     "events stand by rising ticket: draw each ticket from one counter that all threads share";
 
 /// Advice: how tickets that are clock readings come to rise.
-const BY_CLOCK: &str =
-    "readings of a clock become tickets by examples/from-clocks; or draw tickets from one counter";
+pub(crate) const BY_CLOCK: &str =
+    "clock readings become tickets by from-clocks (examples or share/fifobench); or draw tickets from one counter";
 
 /// A ticket above this is more likely a clock reading than a recorder's count.
 const RATHER_A_CLOCK: u64 = 100_000_000;

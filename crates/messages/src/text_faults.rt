@@ -1,11 +1,12 @@
 //! Messages about inputs that aren't well-formed texts.
 use crate::complaints::{Given, Reads};
 use crate::ends::{counted_in, cut_message, trailing_message};
+use crate::history_faults::BY_CLOCK;
 use crate::input::{Part, counted, counts_events, end_line, line_of, open_line, part_of};
 use crate::message::Blank::{Number, Shown, Words};
 use crate::message::Message;
 use crate::ranges::{Ranged, first_wrong};
-use event_records::MAX_EVENTS;
+use event_records::{MAX_EVENTS, MAX_TICKET};
 use std::alloc::{AllocError, Global};
 use text_lines::{LONGEST_LINE, TextFault};
 
@@ -116,7 +117,7 @@ const FORMATS: [(&[u8], &str); 9] = [
 ];
 
 /// Returns the advice for input of another format, which its first bytes show.
-fn format_hint(front: &[u8]) -> Option<&'static str> {
+pub(crate) fn format_hint(front: &[u8]) -> Option<&'static str> {
     for (first_bytes, hint) in FORMATS {
         if front.starts_with(first_bytes) {
             return Some(hint);
@@ -235,6 +236,15 @@ fn number_message(alloc: Global, number: u64, given: &Given<'_>) -> Result<Messa
     )
 }
 
+/// Returns the advice for a number out of its range: a ticket above it is rather the reading of a clock.
+fn range_hint(ranged: Ranged) -> &'static str {
+    if ranged.greatest == MAX_TICKET {
+        BY_CLOCK
+    } else {
+        ""
+    }
+}
+
 /// Builds the message for a number field that is out of its range.
 fn range_message(
     alloc: Global,
@@ -250,13 +260,16 @@ fn range_message(
         Shown(field),
     ];
     let sentence = "line {}: {} has to be from {} to {}, found {}";
-    Message::of(alloc, sentence, &blanks, "")
+    Message::of(alloc, sentence, &blanks, range_hint(ranged))
 }
 
 /// Builds the message for a number out of its range, or for one line too many.
 fn limit_message(alloc: Global, number: u64, given: &Given<'_>) -> Result<Message, AllocError> {
-    let line = line_of(given, number).unwrap_or(b"");
-    match first_wrong(part_of(given, number), line) {
+    let wrong = match line_of(given, number) {
+        Some(line) => first_wrong(part_of(given, number), line),
+        None => None,
+    };
+    match wrong {
         Some((ranged, field)) => range_message(alloc, number, ranged, field),
         None => Message::of(
             alloc,
