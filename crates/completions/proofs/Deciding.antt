@@ -278,7 +278,7 @@ module _ (done : List Operation) (Enqueuing : ℕ → ℕ → Type 0) (dequeuing
         value = v;
         dequeues = (is.keeps d did_d.0, did_d.1);
         not_accepted = λ enq did. never enq did.0 (inl did.1);
-        not_refused = λ o among k. never o among (inr k);
+        not_failed = λ o among k. never o among (inr k);
       }))
     ]
 
