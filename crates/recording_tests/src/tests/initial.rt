@@ -68,7 +68,12 @@ const CASES: [Case<'static>; 7] = [
 ];
 
 // Returns whether the run of each proved queue ends as the case says.
-fn proved_end_so<R: Threads + Wait + Sync>(rt: &R, alloc: Global, plan: &Plan, case: &Case) -> bool {
+fn proved_end_so<R: Threads + Wait + Sync>(
+    rt: &R,
+    alloc: Global,
+    plan: &Plan,
+    case: &Case,
+) -> bool {
     let (initial, ring, tries, _, proved) = *case;
     for queue in [
         ProvedQueue::OneLock,
