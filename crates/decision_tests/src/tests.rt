@@ -1,4 +1,4 @@
-mod claims;
+mod claimed;
 mod completing;
 mod histories;
 mod matching;
