@@ -130,4 +130,12 @@ either_log (Some log) other = Some log
 
 -- what a pass is that took in another: the rests added, and the tickets and the notes of both
 abbrev pub put_together : Holding → Holding → Holding
-put_together g h = record { left = g.left + h.left; drawn = merged g.drawn h.drawn; noted = g.noted ++ h.noted; log = either_log g.log h.log; tail = None; head = None; walk = None }
+put_together g h = record {
+  left = g.left + h.left;
+  drawn = merged g.drawn h.drawn;
+  noted = g.noted ++ h.noted;
+  log = either_log g.log h.log;
+  tail = None;
+  head = None;
+  walk = None;
+}

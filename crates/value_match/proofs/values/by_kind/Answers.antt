@@ -24,7 +24,13 @@ loop-place-preserved c =
             rw (w.empties-is, w.failed-is, w.in_ok-push-in-DequeueEmpty.ensures.items, w.new.ensures, pushed.other (λ v same. let other = w.in-DequeueEmpty.is in cc))
             (rw w.in-DequeueEmpty.is at (sorted_other _ _ _ _ _ _ here known (rw w.in-DequeueEmpty.is refl)))
         | in-EnqueueFailed+in_ok-push-in-EnqueueFailed w ↦
-            rw (w.empties-is, w.failed-is, w.in_ok-push-in-EnqueueFailed.ensures.items, w.new-in-EnqueueFailed.ensures, pushed.other (λ v same. let other = w.in-EnqueueFailed.is in cc))
+            rw (
+              w.empties-is,
+              w.failed-is,
+              w.in_ok-push-in-EnqueueFailed.ensures.items,
+              w.new-in-EnqueueFailed.ensures,
+              pushed.other (λ v same. let other = w.in-EnqueueFailed.is in cc),
+            )
             (rw w.in-EnqueueFailed.is at (sorted_other _ _ _ _ _ _ here known (rw w.in-EnqueueFailed.is refl)))
         | in-Dequeue w ↦ rw (w.empties-is, w.failed-is, pushed.other (λ v same. let other = w.in-Dequeue.is in cc))
             (rw w.in-Dequeue.is at (sorted_other _ _ _ _ _ _ here known (rw w.in-Dequeue.is refl)))

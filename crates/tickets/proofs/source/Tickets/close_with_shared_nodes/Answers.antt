@@ -28,7 +28,8 @@ returns-clause-log c =
     let initial = ap (λ (t : TicketsView). t.initial) c.self.view_is in
     subst (λ (values : List ℕ). (log : List Note) × IsPermutation c.args.pass.noted log × LooksRise 0 log c.word-total.result × IsSome (queue_after values log))
     initial
-    (subst (λ (ns : List Note). (log : List Note) × IsPermutation ns log × LooksRise 0 log c.word-total.result × IsSome (queue_after (shared_initial c.self.inside.table.shared.key) log))
+    (subst (λ (ns : List Note). (log : List Note) × IsPermutation ns log × LooksRise 0 log c.word-total.result
+    × IsSome (queue_after (shared_initial c.self.inside.table.shared.key) log))
     (ap (λ m. m.0.noted) c.into_parts-seat.ensures.seat)
     (settles_shared c.self.inside.table.shared.key shared _ c.into_parts-seat.result.0.me.0 _ _ c.word-total.result (whole c)
     c.close_with-closed.ensures.values.2 c.word-total.ensures))
