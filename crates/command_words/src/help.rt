@@ -8,19 +8,19 @@ pub(crate) const VERSION: &str = "0.3.0\nproved in the Rattle logic dac8208d650f
 pub(crate) const ABOUT: &str = "Records and judges histories of a concurrent FIFO queue";
 
 pub(crate) const SHORT: &str = "\
-A text is read from standard input: fifobench check < FILE
+A command reads a text from standard input: fifobench check < FILE
 `fifobench COMMAND --help` says what a command reads and writes.
 ";
 
 pub(crate) const LONG: &str = "\
-A text is read from standard input: fifobench check < FILE. The answer goes to
-standard output, and where the status is 2 or 3 standard error says why.
+A command reads a text from standard input: fifobench check < FILE. The answer
+goes to standard output. If the status is 2 or 3, standard error says why.
 `fifobench COMMAND --help` says what a command reads and writes.
 
 Status:
   0  yes, or what was asked for is written
   1  no, or the verdict is no evidence
-  2  refused: the input (REFUSED ..), or the words of the command
+  2  refused: the input (REFUSED ..), or the arguments
   3  failed: a read, a write, a run, or memory (FAULT ..)
 ";
 
@@ -34,32 +34,33 @@ Input: the text of a history (docs/FORMATS.md). It begins with the line
 events. Between them stands a line for each event, by rising ticket; threads
 are 0 to 63:
   TICKET THREAD call-enq VALUE   the thread calls to enqueue the value
-  TICKET THREAD ret-enq          that call is answered: the value is in
-  TICKET THREAD ret-not          or: it is not
+  TICKET THREAD ret-enq          that call returns: the value is enqueued
+  TICKET THREAD ret-not          or: the enqueue failed
   TICKET THREAD call-deq         the thread calls to dequeue
-  TICKET THREAD ret-deq VALUE    that call is answered with the value
-  TICKET THREAD ret-empty        or: the queue is empty
-The queue is empty before the first event. Where it holds K values first, the
+  TICKET THREAD ret-deq VALUE    that call returns the value
+  TICKET THREAD ret-empty        or: it found the queue empty
+The queue is empty before the first event. If it holds K values instead, the
 text begins with the lines `fifo-history 2` and `initial K` and a line for each
 of these values, the front one first.
 
 Output: `YES` and all operations in a linearization, or `NO`, the kind of
 violation and the operations that show it: VFresh, a value that was not there;
 VRepeat, a value dequeued twice; VOrd, two values dequeued against the order of
-their enqueues; VWit, an empty answer although the queue was never empty
+their enqueues; VWit, a dequeue that found the queue empty although it never was
 meanwhile. A line has the tickets of an operation's call and return, its thread,
 and what it did; `init VALUE` stands for a value that the queue held first.
 
 With `--local` the values of each producer are judged alone (local
-linearizability): for each thread the operations on the values that it enqueues,
-by whomever, and all empty dequeues have to be linearizable; initial values
-count as one more thread's. `YES` lists their linearizations one after another,
-that of the initial values first, then by thread; `NO` shows a violation of the
-first that has none. With `--weak-empty` an empty dequeue promises nothing: the
-history without its empty dequeues is judged. `verify` takes the verdict with
-the same flags, and a `NO` without them too.
+linearizability). For each thread, the operations on the values that it enqueues
+and all empty dequeues have to be linearizable, whichever threads make them. The
+initial values count as those of one more thread. `YES` lists these
+linearizations one after another, that of the initial values first, then by
+thread. `NO` shows a violation of the first thread that has none. With
+`--weak-empty` an empty dequeue promises nothing: the history without its empty
+dequeues is judged. `verify` takes the verdict with the same flags, and takes a
+`NO` without them too.
 
-Lines count from 1 and events from 0: event i stands in line i + 2, and after K
+Lines count from 1 and events from 0: event i is in line i + 2, and after K
 initial values in line i + K + 3. A text that goes on after its line `end N` is
 `REFUSED Trailing`: of what `stress` writes, take the history on its own by
 `sed '/^end /q'`.
@@ -67,7 +68,7 @@ initial values in line i + K + 3. A text that goes on after its line `end N` is
 Status:
   0  yes
   1  no
-  2  refused: the input (REFUSED ..), or the words of the command
+  2  refused: the input (REFUSED ..), or the arguments
   3  failed: a read, a write, or memory (FAULT ..)
 
 Example:
@@ -83,13 +84,13 @@ pub(crate) const SHRINK_LONG: &str = "\
 Input: the text of a history, as for `check`, from its first line to the line
 `end N`.
 
-Output: where the history is not linearizable, the text of the shrunk history,
-of the version of the input, and then its verdict; else the verdict alone, as
+Output: if the history is not linearizable, the text of the shrunk history, in
+the version of the input, and then its verdict; otherwise only the verdict, as
 `check` prints it.
 
-With `--local` or `--weak-empty` a history is shrunk that doesn't meet this
-condition, as for `check`. What is shown doesn't meet it either; each smaller
-part does.
+With `--local` or `--weak-empty` a history is shrunk if it doesn't meet this
+condition, as `check` judges it. The shrunk history doesn't meet it either, and
+each smaller part does.
 
 A text that goes on after its line `end N` is `REFUSED Trailing`: of what
 `stress` writes, take the history on its own by `sed '/^end /q'`.
@@ -97,7 +98,7 @@ A text that goes on after its line `end N` is `REFUSED Trailing`: of what
 Status:
   0  yes
   1  no
-  2  refused: the input (REFUSED ..), or the words of the command
+  2  refused: the input (REFUSED ..), or the arguments
   3  failed: a read, a write, or memory (FAULT ..)
 
 Example:
@@ -118,16 +119,16 @@ Input: the text of a history, as for `check`, from its first line to the line
 `end N`, directly followed by the text of a verdict, from the line `YES` or
 `NO ..` on, as `stress` and `shrink` print them.
 
-Output: `VALID` where the verdict's operations are evidence for it in that
-history, else `INVALID`. Lines count from 1 through both texts.
+Output: `VALID` if the verdict's operations are evidence for it in that history,
+otherwise `INVALID`. Lines count from 1 through both texts.
 
-With `--local` and `--weak-empty` the verdict is one under that condition, as
+With `--local` or `--weak-empty` the verdict is one under that condition, as
 `check` writes it with the same flags.
 
 Status:
   0  valid
   1  invalid
-  2  refused: the input (REFUSED ..), or the words of the command
+  2  refused: the input (REFUSED ..), or the arguments
   3  failed: a read, a write, or memory (FAULT ..)
 
 Example:
@@ -141,7 +142,7 @@ pub(crate) const DRAW_ABOUT: &str = "Draws a history, and a verdict if one follo
 pub(crate) const DRAW_LONG: &str = "\
 Input: the text of a history, from its first line to the line `end N`, directly
 followed by the text of a verdict, from the line `YES` or `NO ..` on, as for
-`verify`. Where nothing follows, the history is decided as by `check`, and drawn
+`verify`. If nothing follows, the history is judged as by `check`, and drawn
 with that verdict. Or a pending text, as for `complete`: it is drawn as its
 completion, with the verdict on that.
 
@@ -151,37 +152,40 @@ that shows what precedes an operation and unfolds what is left out, or with
 each thread a lane, and each operation a bar from its call to its return. With
 `YES` the linearization stands beside the tickets, and each number where its
 operation takes effect. With `NO` the operations that show it are numbered in
-the order of the verdict's lines, and bands say when a value was definitely in
-the queue, was not, and the time that contradicts it. In characters `[` is a
-call, `]` its return and `|` stands between, and bands are `###`, `xxx` and
+the order of the verdict's lines, and bands show when a value was definitely in
+the queue, when it was not, and the time that contradicts it. In characters `[`
+is a call, `]` its return and `|` stands between, and bands are `###`, `xxx` and
 `:::`; a call that never returned has no `]`. If the verdict is no evidence in
-the history, `INVALID`, and nothing is drawn. Values that the queue holds first
-(texts of `fifo-history 2`) have rows of their own above all events, front
-first, numbered as operations are, if a `NO` lists them or a drawn operation has
-them; a row `... 298 values ...` stands for the others. `6:11` is value 11 of
-thread 6 as recorders name it, 6 * 2^32 + 11, and `init:3` is 2^38 + 3.
+the history, the output is `INVALID`, and nothing is drawn. Values that the
+queue holds first (texts of `fifo-history 2`) have rows of their own above all
+events, the front one first, if a `NO` lists them or a drawn operation has them;
+a row `... 298 values ...` stands for the others. They are numbered like
+operations. `6:11` is value 11 of thread 6 as recorders name it, 6 * 2^32 + 11,
+and `init:3` is 2^38 + 3.
 
 With `NO` only the operations that show it and those that overlap one of them
-are drawn; a row `... 250 events ...` stands for what is left out between. With
-`--around 20` so are the 20 events before and after each operation that shows
-it, and all that is pending meanwhile; in characters what overlaps no numbered
-operation has `(`, `)` and `:`. With `--all` every operation is.
+are drawn; a row `... 250 events ...` stands for what is left out between them.
+With `--around 20` the 20 events before and after each operation that shows it
+are drawn too, with all that is pending meanwhile; in characters an operation
+that overlaps no numbered one has `(`, `)` and `:`. With `--all` every operation
+is drawn.
 
-With `--local` and `--weak-empty` the verdict is one under that condition, as of
+With `--local` or `--weak-empty` the verdict is one under that condition, as for
 `check`. With `--weak-empty` empty dequeues aren't drawn. A `YES` with `--local`
-is `REFUSED Orders`: it has a linearization for each producer, and no picture of
-one. A pending text's completion is judged, which decides linearizability alone.
+is `REFUSED Orders`: it has a linearization for each producer, so there is no
+single one to draw. With these flags the verdict on a pending text is that of
+its completion, and says nothing about other completions.
 
-A page unfolds up to 20,000 operations of a history; of a longer one it shows
-what the picture has.
+A page unfolds the whole history if it has at most 20,000 operations; of a
+longer one it shows only what the picture has.
 
-More than 400 operations to be drawn, or lines of the verdict, are `REFUSED
-Size`: shrink the history first. Lines count from 1 through both texts.
+More than 400 operations to draw, or lines of a verdict, are `REFUSED Size`:
+shrink the history first. Lines count from 1 through both texts.
 
 Status:
   0  drawn
   1  invalid
-  2  refused: the input (REFUSED ..), or the words of the command
+  2  refused: the input (REFUSED ..), or the arguments
   3  failed: a read, a write, or memory (FAULT ..)
 
 Example:
@@ -220,12 +224,12 @@ Input: the text of a history, as for `check`, from its first line to the line
 
 Output: the text of the same history in version 2, which says after its first
 line how many values the queue holds before the first event, and which. A text
-of version 2 comes out as it is. What `check` refuses is refused, with the same
-line.
+of version 2 stays as it is. What `check` refuses is refused here too, with the
+same line.
 
 Status:
   0  converted
-  2  refused: the input (REFUSED ..), or the words of the command
+  2  refused: the input (REFUSED ..), or the arguments
   3  failed: a read, a write, or memory (FAULT ..)
 
 Example:
@@ -242,25 +246,26 @@ pub(crate) const COMPLETE_ABOUT: &str = "Completes a history whose calls may be 
 
 pub(crate) const COMPLETE_LONG: &str = "\
 Input: the text of a history, as for `check`, in which calls may have no return;
-or a pending text, as recorders write it of a run that didn't end: its first
+or a pending text, which recorders write of a run that didn't end: its first
 line is `fifo-pending 1` or `fifo-pending 2`, and before its last line a line
-`open N` counts the calls without a return. With `--cut` also such a text that
-ends early: after its last whole line, calls without a return are pending.
+`open N` counts the calls without a return. With `--cut` such a text may also
+end early: after its last whole line, calls without a return are pending.
 
-Output: the text of a completion, of the input's version. It is linearizable if
-and only if some completion is (Herlihy and Wing 1990): a pending enqueue
-returns if its value was dequeued, else its call is left out; pending dequeues
-return, in the order of their calls, the values that no dequeue returned,
-initial values first, the others by the returns of their enqueues; a dequeue for
-which no value is left is left out. Added returns stand after the last event. A
-history without pending calls comes out as it is.
+Output: the text of a completion, in the version of the input. It is
+linearizable if and only if some completion is (Herlihy and Wing 1990). A
+pending enqueue returns if its value was dequeued, otherwise its call is left
+out. Pending dequeues return, in the order of their calls, the values that no
+dequeue returned: the initial values first, then the others in the order in
+which their enqueues returned. A dequeue for which no value is left is left out.
+Added returns come after the last event. A history without pending calls stays
+as it is.
 
 So `fifobench complete | fifobench check` judges a history with pending calls:
-`NO` means that no way in which they may end makes it linearizable.
+`NO` means that it isn't linearizable, however these calls may end.
 
 Status:
   0  completed
-  2  refused: the input (REFUSED ..), or the words of the command
+  2  refused: the input (REFUSED ..), or the arguments
   3  failed: a read, a write, or memory (FAULT ..)
 
 Example:
@@ -288,38 +293,39 @@ Output: a line for each number, its name and its value:
   events               events
   operations           operations, each a call with its return
   threads              threads that have an event
-  enqueued             enqueues that the queue took
-  refused              enqueues that it refused
+  enqueued             enqueues that succeeded
+  refused              enqueues that failed
   dequeued             dequeues that gave a value
   empty                dequeues that found the queue empty
   initial              values that the queue holds before the first event
   thread-changes       events of another thread than the event before
   overlapping          operations that overlap another one: neither returned
                        before the other was called
-  overlapping-percent  the same among a hundred operations, rounded down;
-                       0.0 of no operations
+  overlapping-percent  their share of all operations, in percent, rounded down;
+                       0.0 if there are no operations
   most-pending         the most operations that were pending at once
-  most-in-queue        the most values definitely in the queue at once:
-                       put there by enqueues that had returned, and not given
-                       by dequeues that had been called
+  most-in-queue        the most values definitely in the queue at once: their
+                       enqueues had returned, and their dequeues had not been
+                       called
   overtakes            dequeues that certainly overtook a value: it was enqueued
                        before theirs, and dequeued after theirs or never
   overtaken-at-most    the most values that one dequeue certainly overtook
-  refused-at           of the enqueues that were refused, the least of the most
-                       values that may have been in the queue at once during
-                       the call; no line if none was refused
+  refused-at           for each failed enqueue, the most values that may have
+                       been in the queue at once during the call: the least of
+                       these numbers; no line if no enqueue failed
 
-With `--overtakes` a line for each dequeue that certainly overtook a value, in
-the order of their calls, in place of the numbers: how many values it overtook,
-the ticket of its call, and the value that it gave. No line if none did.
+With `--overtakes` the output is a line for each dequeue that certainly overtook
+a value, in the order of their calls, in place of the numbers: how many values
+it overtook, the ticket of its call, and the value that it gave. There is no
+line if none did.
 
-What `check` refuses is refused, with the same line. A text that goes on after
-its line `end N` is `REFUSED Trailing`: of what `stress` writes, take the
-history on its own by `sed '/^end /q'`.
+What `check` refuses is refused here too, with the same line. A text that goes
+on after its line `end N` is `REFUSED Trailing`: of what `stress` writes, take
+the history on its own by `sed '/^end /q'`.
 
 Status:
   0  counted
-  2  refused: the input (REFUSED ..), or the words of the command
+  2  refused: the input (REFUSED ..), or the arguments
   3  failed: a read, a write, or memory (FAULT ..)
 
 Example:
@@ -359,15 +365,15 @@ stands a line for each step of a thread T:
   drain T K              up to K events of its ring are collected
   close T                it is closed
 
-Output: a line `REJECTED`, with the number of the step from 1 and the reason,
-for each step that the recorder refuses; then `OPEN` where some thread is not
-closed or some ring not empty, else the text of the recorded history and its
-verdict. Lines count from 1: step i stands in line i + 2.
+Output: a line `REJECTED`, with the number of the step, from 1, and the reason,
+for each step that the recorder refuses; then `OPEN` if some thread is not
+closed or some ring is not empty, otherwise the text of the recorded history and
+its verdict. Lines count from 1: step i is in line i + 2.
 
 Status:
   0  yes, or open
   1  no
-  2  refused: the input (REFUSED ..), or the words of the command
+  2  refused: the input (REFUSED ..), or the arguments
   3  failed: a read, a write, or memory (FAULT ..)
 
 Example:
@@ -382,16 +388,16 @@ pub(crate) const STRESS_LONG: &str = "\
 Input: none.
 
 Output: the text of the recorded history and its verdict, which `verify` reads.
-Runs of several workers differ, also with the same options, since the workers
+Runs of several workers differ, even with the same options, since the workers
 run at the same time.
 
-With `--local` and `--weak-empty` the run is judged under that condition, as by
+With `--local` or `--weak-empty` the run is judged under that condition, as by
 `check`.
 
-With `--initial K` the queue is given the values 274877906944, 274877906945, ..
-before any worker starts, K of them, and the text of the history is of version
-2. Where the queue has no room for one of them, `FAULT Preload PLACE` says for
-which, counted from 0.
+With `--initial K` the K values 274877906944, 274877906945, .. are enqueued
+before any worker starts, and the text of the history is of version 2. If the
+queue has no room for one of them, `FAULT Preload PLACE` says for which, counted
+from 0.
 
 Queues: proved, proved-two-lock and proved-lock-free keep the order, as is
 proved; locked, two-lock, array and seg are made to keep it; lifo, doubling,
@@ -401,7 +407,7 @@ Status:
   0  yes
   1  no
   2  refused: no such queue, or threads times operations is above 1000000
-     (REFUSED ..), or the words of the command
+     (REFUSED ..), or the arguments
   3  failed: the run, a write, or memory (FAULT ..)
 
 Example:

@@ -1,4 +1,4 @@
-//! The program: one subcommand over the standard streams, or a run of one of the built-in queues.
+//! The program `fifobench`: one subcommand over the standard streams, or a run of one of the built-in queues.
 #![tactic(auto)]
 
 use commands::{
@@ -12,7 +12,8 @@ use std::io::{IsTerminal, Write};
 use std::os::unix::fs::MetadataExt;
 use std::process::ExitCode;
 
-/// The size of the largest block by which glibc learns what to keep: 32 MiB, less what it adds to a block.
+/// Size of the largest block from which glibc learns how much freed memory to keep: 32 MiB, less what it adds to a
+/// block.
 const LARGE_BLOCK: usize = (32 << 20) - (8 << 10);
 
 fn main(rt: HostRuntime) -> ExitCode {
@@ -45,7 +46,8 @@ fn main(rt: HostRuntime) -> ExitCode {
     ExitCode::from(exit.status)
 }
 
-/// Returns whether standard output and standard error are one file, so that whoever reads one reads the other.
+/// Returns whether standard output and standard error are the same file, so that whoever reads one also reads the
+/// other.
 fn is_one_file<R: Files>(rt: &R) -> bool {
     match (
         fs::metadata(rt, "/dev/stdout"),
@@ -56,7 +58,7 @@ fn is_one_file<R: Files>(rt: &R) -> bool {
     }
 }
 
-/// Says why the command can't begin.
+/// Prints why the command can't begin, and returns its status.
 fn explain_start<R: Print, E: Write>(
     rt: &R,
     fault: StartFault,
@@ -71,10 +73,10 @@ where
     ExitCode::from(print_start_fault(fault, &mut writer, &mut errors, terminals))
 }
 
-/// Takes a large block of memory, if there is one, and nothing of it is used.
+/// Allocates a large block of memory, if there is one, and uses nothing of it.
 ///
-/// Once such a block is given back, glibc keeps what later lists give back for those after them. Otherwise each large list
-/// is new memory of the system, and its pages cost up to a tenth of a check's time.
+/// Once such a block is freed, glibc keeps the memory that later lists free, and gives it to further lists. Otherwise
+/// each large list is new memory from the system, whose pages cost up to a tenth of a check's time.
 #[inline(never)]
 fn large_block(alloc: Global) -> Option<Vec<u8>> {
     Vec::with_capacity(alloc, LARGE_BLOCK).ok()
