@@ -1,7 +1,7 @@
 #!/usr/bin/env bash
-# How fast `check` is, beside a plain checker in Rust: ratios of time and
-# memory, growth, the stages, and the cost of a weaker condition. Nothing here
-# is a test.
+# Measures how fast `check` is beside a plain checker in Rust: ratios of time
+# and memory, growth, the stages, and the cost of a weaker condition. Nothing
+# here is a test.
 #
 #   bench/check.sh [PROGRAM]      PROGRAM is the built fifobench; by default
 #                                 that of this repository
@@ -13,7 +13,7 @@
 #                  witness initial-witness long")
 #   BENCH_ROUNDS   runs of each program on each history (default 9)
 #
-# Needs rustc and python3. The figures mean something on an idle machine alone:
+# Needs rustc and python3. The figures mean something only on an idle machine:
 # the last line says how busy it was.
 set -euo pipefail
 here=$(cd "$(dirname "${BASH_SOURCE[0]}")" && pwd)

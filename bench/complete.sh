@@ -1,6 +1,6 @@
 #!/usr/bin/env bash
-# What `complete` costs beside `check`, on a history of 64 threads each of which
-# has a pending call. Nothing here is a test.
+# Measures the cost of `complete` beside `check`, on a history of 64 threads,
+# each of which has a pending call. Nothing here is a test.
 #
 #   bench/complete.sh [PROGRAM]      PROGRAM is the built fifobench; by default
 #                                    that of this repository
@@ -10,10 +10,10 @@
 #                  left out (default "200000 2000000")
 #   BENCH_ROUNDS   runs of each command on each history (default 9)
 #
-# A line for each size: processor time and peak memory of `complete` over the
-# pending text, of `check` over what it writes, and the median of the rounds'
-# ratios of time. Needs rustc and python3. The figures mean something on an idle
-# machine alone.
+# Prints a line for each size: processor time and peak memory of `complete` for
+# the pending text, and of `check` for what it writes, and the median of the
+# rounds' ratios of time. Needs rustc and python3. The figures mean something
+# only on an idle machine.
 set -euo pipefail
 here=$(cd "$(dirname "${BASH_SOURCE[0]}")" && pwd)
 . "$here/../tools/heads"

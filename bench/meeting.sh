@@ -1,12 +1,12 @@
 #!/usr/bin/env bash
-# How much the workers of a run meet, beside a plain recorder in Rust, and what
-# a run costs.
+# Measures how far the operations of a run's workers overlap, beside a plain
+# recorder in Rust, and the cost of a run.
 #
-#   bench/meeting.sh [SEEDS]     for each sound queue SEEDS runs (default 50)
-#                                with 2 and with 4 workers
+#   bench/meeting.sh [SEEDS]     makes SEEDS runs (default 50) of each sound
+#                                queue with 2 workers, and as many with 4
 #
-# Needs rustc and python3 beside what the program needs. The figures mean
-# something on an idle machine alone: the last line says how busy it was.
+# Needs rustc and python3 besides what the program needs. The figures mean
+# something only on an idle machine: the last line says how busy it was.
 set -euo pipefail
 top=$(cd "$(dirname "${BASH_SOURCE[0]}")/.." && pwd)
 . "$top/tools/heads"

@@ -14,12 +14,12 @@
 #                   20000 200000 2000000")
 #   BENCH_ROUNDS    histories of each size, from seeds 1, 2, ..; a time is their
 #                   median (default 3)
-#   BENCH_SECONDS   when a search is given up (default 60)
-#   BENCH_ENTRIES   how many entries its memo may have (default 50000000)
+#   BENCH_SECONDS   seconds after which a search is given up (default 60)
+#   BENCH_ENTRIES   maximum number of entries of its memo (default 50000000)
 #
 # Once the median search of a size doesn't end, larger ones aren't tried;
 # `check` is measured at all sizes. The answers of both are compared. Needs
-# rustc and python3. The figures mean something on an idle machine only.
+# rustc and python3. The figures mean something only on an idle machine.
 set -euo pipefail
 here=$(cd "$(dirname "${BASH_SOURCE[0]}")" && pwd)
 . "$here/../tools/heads"
