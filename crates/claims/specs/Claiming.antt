@@ -1,5 +1,6 @@
 -- The claim of a verdict: its kind, and the lines at its places.
-use Rattle.std.specs.Prelude.{ℕ, ◌<◌, ◌++◌, Bool, true, false, List, All, length, map, filter, filter_map, option_map, slice_get, Option}
+use Rattle.std.specs.Prelude.{ℕ, ◌<◌, ◌++◌, Bool, true, false, List, All, length, map, filter, filter_map, option_map}
+use Rattle.std.specs.Prelude.{slice_get, Option}
 use Rattle.history_merge.specs.declared.operation.Operation.{Operation}
 use Rattle.history_merge.specs.Initial.{HistoryView}
 use Rattle.history_merge.specs.Operations.{operations_of}
@@ -67,8 +68,10 @@ operations_at operations places = filter_map (slice_get operations) places
 -- the claim of a verdict on a history: for a `YES` the operations at its places, for a `NO` the lines at its places
 abbrev pub claim_of : List ℕ → List Operation → Verdict → Claimed
 claim_of initial operations (Yes places) = claimed.Yes (operations_at operations places)
-claim_of initial operations (No violation) = claimed.No (violation_kind violation) (lines_at initial operations (violation_places violation))
+claim_of initial operations (No violation) =
+    claimed.No (violation_kind violation) (lines_at initial operations (violation_places violation))
 
 -- the lines of a violation of a history
 abbrev pub violation_lines : HistoryView → Violation → List ClaimLine
-violation_lines history violation = lines_at history.initial (operations_of history.events) (violation_places violation)
+violation_lines history violation =
+    lines_at history.initial (operations_of history.events) (violation_places violation)

@@ -39,33 +39,40 @@ ReturnsFirst _ _ = ⊥
 -- a phantom dequeue, with the call to enqueue its value, successful or failed, if the history has one
 abbrev pub ShowsFresh : List ℕ → List Operation → List ClaimLine → Type 0
 ShowsFresh initial operations (deq ∷ []) =
-    (v : ℕ) × LineDid initial operations deq (Dequeue v) × NoLineDid initial operations (Enqueue v) × NoLineDid initial operations (EnqueueFailed v)
+    (v : ℕ) × LineDid initial operations deq (Dequeue v) × NoLineDid initial operations (Enqueue v)
+    × NoLineDid initial operations (EnqueueFailed v)
 ShowsFresh initial operations (deq ∷ enq ∷ []) = (v : ℕ) × LineDid initial operations deq (Dequeue v)
-    × (LineDid initial operations enq (EnqueueFailed v) ⊎ (LineDid initial operations enq (Enqueue v) × LinePrecedes initial deq enq))
+    × (LineDid initial operations enq (EnqueueFailed v)
+    ⊎ (LineDid initial operations enq (Enqueue v) × LinePrecedes initial deq enq))
 ShowsFresh initial operations _ = ⊥
 
 -- a successful enqueue, and two dequeues of its value in the order of their returns
 abbrev pub ShowsRepeat : List ℕ → List Operation → List ClaimLine → Type 0
 ShowsRepeat initial operations (enq ∷ first ∷ second ∷ []) = (v : ℕ) × LineDid initial operations enq (Enqueue v)
-    × LineDid initial operations first (Dequeue v) × LineDid initial operations second (Dequeue v) × ReturnsFirst first second
+    × LineDid initial operations first (Dequeue v) × LineDid initial operations second (Dequeue v)
+    × ReturnsFirst first second
 ShowsRepeat initial operations _ = ⊥
 
 -- the value's dequeue, which the given line precedes; or no line, if the value is never dequeued
 abbrev pub LeavesAfter : List ℕ → List Operation → ClaimLine → ℕ → List ClaimLine → Type 0
 LeavesAfter initial operations line v [] = NoLineDid initial operations (Dequeue v)
-LeavesAfter initial operations line v (deq ∷ []) = LineDid initial operations deq (Dequeue v) × LinePrecedes initial line deq
+LeavesAfter initial operations line v (deq ∷ []) = LineDid initial operations deq (Dequeue v)
+    × LinePrecedes initial line deq
 LeavesAfter initial operations line v _ = ⊥
 
 -- the enqueue of a, the later enqueue of b, the dequeue of b, and the dequeue of a after it, if there is one
 abbrev pub ShowsOrder : List ℕ → List Operation → List ClaimLine → Type 0
-ShowsOrder initial operations (enq_a ∷ enq_b ∷ deq_b ∷ deq_a) = (a : ℕ) × (b : ℕ) × LineDid initial operations enq_a (Enqueue a)
-    × LineDid initial operations enq_b (Enqueue b) × LineDid initial operations deq_b (Dequeue b) × LinePrecedes initial enq_a enq_b
+ShowsOrder initial operations (enq_a ∷ enq_b ∷ deq_b ∷ deq_a) = (a : ℕ) × (b : ℕ)
+    × LineDid initial operations enq_a (Enqueue a)
+    × LineDid initial operations enq_b (Enqueue b) × LineDid initial operations deq_b (Dequeue b)
+    × LinePrecedes initial enq_a enq_b
     × LeavesAfter initial operations deq_b a deq_a
 ShowsOrder initial operations _ = ⊥
 
 -- the line `enq` enqueues the value, and precedes the other
 abbrev pub EnqueuedBefore : List ℕ → List Operation → ClaimLine → ClaimLine → ℕ → Type 0
-EnqueuedBefore initial operations line enq v = LineDid initial operations enq (Enqueue v) × LinePrecedes initial enq line
+EnqueuedBefore initial operations line enq v = LineDid initial operations enq (Enqueue v)
+    × LinePrecedes initial enq line
 
 -- the first value is enqueued before the given line; each value but the last is dequeued, and the next one is
 -- enqueued before that; the last value is dequeued after the empty dequeue, or never
@@ -76,12 +83,14 @@ LinesCover initial operations empty line (enq ∷ []) =
 LinesCover initial operations empty line (enq ∷ deq ∷ []) =
     (v : ℕ) × EnqueuedBefore initial operations line enq v × LeavesAfter initial operations empty v (deq ∷ [])
 LinesCover initial operations empty line (enq ∷ deq ∷ next ∷ rest) =
-    (v : ℕ) × EnqueuedBefore initial operations line enq v × LineDid initial operations deq (Dequeue v) × LinesCover initial operations empty deq (next ∷ rest)
+    (v : ℕ) × EnqueuedBefore initial operations line enq v × LineDid initial operations deq (Dequeue v)
+    × LinesCover initial operations empty deq (next ∷ rest)
 
 -- an empty dequeue, and values of which one or another was in the queue all the time
 abbrev pub ShowsWitness : List ℕ → List Operation → List ClaimLine → Type 0
 ShowsWitness initial operations [] = ⊥
-ShowsWitness initial operations (empty ∷ cover) = LineDid initial operations empty DequeueEmpty × LinesCover initial operations empty empty cover
+ShowsWitness initial operations (empty ∷ cover) = LineDid initial operations empty DequeueEmpty
+    × LinesCover initial operations empty empty cover
 
 -- the lines show a violation of this kind
 abbrev pub Shows : List ℕ → List Operation → ViolationKind → List ClaimLine → Type 0

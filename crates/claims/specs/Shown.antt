@@ -25,5 +25,6 @@ places_of_step step = place_of_source step.source ∷ maybe_place step.dequeue
 abbrev pub violation_places : Violation → List LinePlace
 violation_places (Fresh deq enq) = Op deq ∷ maybe_place enq
 violation_places (Repeat enq first second) = place_of_source enq ∷ Op first ∷ Op second ∷ []
-violation_places (Order enq_a enq_b deq_b deq_a) = place_of_source enq_a ∷ place_of_source enq_b ∷ Op deq_b ∷ maybe_place deq_a
+violation_places (Order enq_a enq_b deq_b deq_a) =
+    place_of_source enq_a ∷ place_of_source enq_b ∷ Op deq_b ∷ maybe_place deq_a
 violation_places (Witness empty cover) = Op empty ∷ flat_map places_of_step cover

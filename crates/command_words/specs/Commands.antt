@@ -1,12 +1,14 @@
 -- The commands of the program.
-use Rattle.std.specs.Prelude.{◌≤◌, IfSome, Bool, true, false, List, [], ◌∷◌, Option, Some, None, option_and_then, codes, if◌then◌else◌, ⊤}
+use Rattle.std.specs.Prelude.{◌≤◌, IfSome, Bool, true, false, List, [], ◌∷◌, Option, Some, None, option_and_then}
+use Rattle.std.specs.Prelude.{codes, if◌then◌else◌, ⊤}
 use Rattle.std.specs.Option.{option_map_or}
 use Rattle.std.specs.Str.{bytes_eq}
 use Rattle.clap.specs.Faults.{fault_of}
 use Rattle.clap.specs.Kinds.{Kinds}
 use Rattle.clap.specs.Simple.{App, new_shape, subcommand_of}
 use Rattle.clap.specs.Walk.{Row, Text}
-use Rattle.command_words.specs.Options.{IsWithinRanges, Settings, condition_in, drawing_in, is_quiet, settings_in, settings_of, lists_overtakings, takes_cut, the_complete}
+use Rattle.command_words.specs.Options.{IsWithinRanges, Settings, condition_in, drawing_in, is_quiet, settings_in}
+use Rattle.command_words.specs.Options.{settings_of, lists_overtakings, takes_cut, the_complete}
 use Rattle.command_words.specs.Options.{the_deciding, the_draw, the_judging, the_stats, the_stress, the_verify}
 use Rattle.command_words.specs.declared.options.Condition.{Condition}
 use Rattle.command_words.specs.declared.options.DrawOptions.{DrawOptions}
@@ -16,14 +18,19 @@ use Rattle.command_words.specs.declared.tasks.Task.TheVariants as task
 
 -- the program without its subcommands: it has a version, and requires a subcommand
 abbrev pub the_program_alone : App
-the_program_alone = record { top = record (new_shape (codes "fifobench")) { subcommand_required = true; has_version = true }; subs = [] }
+the_program_alone =
+    record {
+      top = record (new_shape (codes "fifobench")) { subcommand_required = true; has_version = true };
+      subs = [];
+    }
 
 -- the program: it has a version, and requires one of these subcommands
 abbrev pub the_program : App
 the_program = record {
   top = record the_program_alone.top { is_leaf = false };
   subs = the_deciding (codes "check") ∷ the_deciding (codes "shrink") ∷ the_verify
-      ∷ the_draw ∷ new_shape (codes "convert") ∷ the_complete ∷ the_stats ∷ the_judging (codes "sim") ∷ the_stress ∷ [];
+      ∷ the_draw ∷ new_shape (codes "convert") ∷ the_complete ∷ the_stats ∷ the_judging (codes "sim") ∷ the_stress
+      ∷ [];
 }
 
 -- the usage error, or the help that was asked for; none for a valid command line

@@ -1,12 +1,14 @@
 -- The options of `draw`, `complete` and `stress`.
-use Rattle.std.specs.Prelude.{◌≤◌, ℕ, Bool, true, false, List, [], ◌∷◌, Option, Some, None, codes, unwrap_or, if◌then◌else◌}
+use Rattle.std.specs.Prelude.{◌≤◌, ℕ, Bool, true, false, List, [], ◌∷◌, Option, Some, None, codes, unwrap_or}
+use Rattle.std.specs.Prelude.{if◌then◌else◌}
 use Rattle.std.specs.Str.{bytes_eq}
 use Rattle.std.specs.Str.Parse.{digits_value, without_leading_plus}
 use Rattle.clap.specs.Simple.{Shape, new_rule, new_shape}
 use Rattle.clap.specs.Walk.{Row, Rule, Text, first_of}
 use Rattle.clap.specs.declared.builder.action.ArgAction.TheVariants.{SetTrue}
 use Rattle.clap.specs.declared.builder.value_parser.ValueParser.TheVariants as vp
-use Rattle.event_records.specs.declared.limits.TheConstants.{MAX_RING, MAX_SEED, MAX_STRESS_INITIAL, MAX_THREAD_OPERATIONS, MAX_WORKERS, MIN_RING}
+use Rattle.event_records.specs.declared.limits.TheConstants.{MAX_RING, MAX_SEED, MAX_STRESS_INITIAL}
+use Rattle.event_records.specs.declared.limits.TheConstants.{MAX_THREAD_OPERATIONS, MAX_WORKERS, MIN_RING}
 use Rattle.command_words.specs.declared.options.TheConstants.{MAX_AROUND}
 use Rattle.command_words.specs.declared.options.PictureForm.{PictureForm}
 use Rattle.command_words.specs.declared.options.PictureForm.TheVariants.{Html, Svg, Terminal}
@@ -67,7 +69,8 @@ the_verify = record (new_shape (codes "verify")) { rules = condition_rules }
 -- the flags of `draw`, and the number of events drawn around a violation
 abbrev pub draw_rules : List Rule
 draw_rules =
-    flag_rule (codes "text") ∷ flag_rule (codes "html") ∷ number_rule (codes "around") 0 MAX_AROUND (codes "0") ∷ flag_rule (codes "all")
+    flag_rule (codes "text") ∷ flag_rule (codes "html") ∷ number_rule (codes "around") 0 MAX_AROUND (codes "0")
+    ∷ flag_rule (codes "all")
     ∷ condition_rules
 
 -- `draw` with its options
@@ -156,7 +159,8 @@ linearizability = record { is_local = false; is_weakly_empty = false }
 
 -- the condition in clap's matches of a command
 abbrev pub condition_in : List Row → Condition
-condition_in rows = record { is_local = has_flag (codes "local") rows; is_weakly_empty = has_flag (codes "weak-empty") rows }
+condition_in rows =
+    record { is_local = has_flag (codes "local") rows; is_weakly_empty = has_flag (codes "weak-empty") rows }
 
 -- the form of the picture in clap's matches of `draw`: characters if that flag was given, else a page if that was,
 -- else SVG

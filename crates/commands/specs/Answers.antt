@@ -90,14 +90,16 @@ abbrev pub answer_text : Reply → List ℕ
 answer_text (judged claimed) = verdict_text claimed
 answer_text (shown text claimed) = text_of text ++ verdict_text claimed
 answer_text (left_open rejections) = rejection_lines rejections ++ line (codes "OPEN")
-answer_text (played rejections events claimed) = rejection_lines rejections ++ (history_text events ++ verdict_text claimed)
+answer_text (played rejections events claimed) =
+    rejection_lines rejections ++ (history_text events ++ verdict_text claimed)
 answer_text (verified valid) = line (if valid then codes "VALID" else codes "INVALID")
 answer_text (converted text) = text_of text
 answer_text (counted statistics) = statistics_text statistics
 answer_text (overtaken overtakings) = overtakings_text overtakings
 answer_text (drawn picture) = picture
 answer_text (refused_text fault) = line (beginning true ++ named (text_names.name_of fault) (text_names.line_in fault))
-answer_text (refused_history fault) = line (beginning true ++ named (history_names.name_of fault) (history_names.place_in fault))
+answer_text (refused_history fault) =
+    line (beginning true ++ named (history_names.name_of fault) (history_names.place_in fault))
 answer_text refused_size = line (beginning true ++ codes "Size")
 answer_text refused_orders = line (beginning true ++ codes "Orders")
 answer_text refused_queue = line (beginning true ++ codes "Queue")

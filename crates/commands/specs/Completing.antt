@@ -19,7 +19,8 @@ use Rattle.commands.specs.Judging.{Whether}
 
 -- the input is this text and nothing more; or this is what comes of one before the input ends, where that is allowed
 abbrev pub IsPendingOf : Bool → Ahead → PendingText → Type 0
-IsPendingOf takes_cut input text = (HasPendingText text × IsWhole (pending_text text) input) ⊎ ((takes_cut ≡ true) × IsCutText 0 input text)
+IsPendingOf takes_cut input text = (HasPendingText text × IsWhole (pending_text text) input)
+    ⊎ ((takes_cut ≡ true) × IsCutText 0 input text)
 
 -- the fault of input that should be such a text
 abbrev pub IsFaultOfPendingInput : Bool → Ahead → TextFault → Type 0
@@ -42,10 +43,11 @@ CountsPending text = IfSome text.open_calls (λ calls. calls ≡ length (pending
 
 -- the completion, as a history's text of the same version
 abbrev pub completion_in : PendingText → HistoryText
-completion_in text = record { version = text.version; initial = text.initial; events = completed text.initial text.events }
+completion_in text =
+    record { version = text.version; initial = text.initial; events = completed text.initial text.events }
 
--- there is a completion: the events are a history but for pending calls, it is within the limits, and the text counts the
--- pending calls rightly
+-- there is a completion: the events are a history but for pending calls, it is within the limits, and the text counts
+-- the pending calls rightly
 pub record IsCompletable (text : PendingText) : Type 0 where
   pub found : MayBePending text.initial text.events
   pub within : ¬ (IsBeyondLimits text.initial text.events)
@@ -54,7 +56,8 @@ pub record IsCompletable (text : PendingText) : Type 0 where
 -- why there is none: the first fault of the history but for pending calls, the limits, or the count
 abbrev pub LacksCompletion : PendingText → Reply → Type 0
 LacksCompletion text answer = IsFaultyBefore text answer
-    ⊎ (MayBePending text.initial text.events × Whether (IsBeyondLimits text.initial text.events) (answer ≡ refused_limit)
+    ⊎ (MayBePending text.initial text.events
+    × Whether (IsBeyondLimits text.initial text.events) (answer ≡ refused_limit)
     ((¬ CountsPending text) × (answer ≡ refused_text Count)))
 
 -- why there is no completion, or what is answered of it

@@ -1,4 +1,5 @@
--- The condition that a command judges: linearizability, local linearizability, and each with empty dequeues that promise nothing.
+-- The condition that a command judges: linearizability, local linearizability, and each with empty dequeues that
+-- promise nothing.
 use Rattle.std.specs.Prelude.{◌≡◌, Bool, true, false}
 use Rattle.command_words.specs.declared.options.Condition.{Condition}
 use Rattle.conditions.specs.Claims.{IsTrueLocalClaim, IsTrueWeakClaim, verdict_of}
@@ -37,8 +38,8 @@ Meets condition history = MeetsBy condition.is_local condition.is_weakly_empty (
 
 -- ---- its verdict
 
--- a linearization or a violation; one of the history without its empty dequeues; or the linearizations of the producers' selections one after
--- another, or a violation in the first that has none
+-- a linearization or a violation; one of the history without its empty dequeues; or the linearizations of the
+-- producers' selections one after another, or a violation in the first that has none
 abbrev pub IsDecidedBy : Bool → Bool → Contents → Verdict → Type 0
 IsDecidedBy false false whole verdict = IsDecided whole.initial whole.operations verdict
 IsDecidedBy false true whole verdict = IsDecidedOf whole (without_empties whole) verdict
@@ -47,11 +48,13 @@ IsDecidedBy true is_weak whole verdict =
 
 -- the verdict on the history under the condition
 abbrev pub IsDecidedUnder : Condition → HistoryView → Verdict → Type 0
-IsDecidedUnder condition history verdict = IsDecidedBy condition.is_local condition.is_weakly_empty (contents_of history) verdict
+IsDecidedUnder condition history verdict =
+    IsDecidedBy condition.is_local condition.is_weakly_empty (contents_of history) verdict
 
 -- ---- claims
 
--- the claim is evidence, by whether each producer's values are judged alone, and whether empty dequeues promise nothing
+-- the claim is evidence, by whether each producer's values are judged alone, and whether empty dequeues promise
+-- nothing
 abbrev pub IsTrueBy : Bool → Bool → Contents → Claimed → Type 0
 IsTrueBy false false whole claimed = IsTrueClaim whole.initial whole.operations claimed
 IsTrueBy false true whole claimed = IsTrueWeakClaim whole claimed
@@ -59,7 +62,8 @@ IsTrueBy true is_weak whole claimed = IsTrueLocalClaim (emptiness_if is_weak) wh
 
 -- the claim is evidence in the history under the condition
 abbrev pub IsTrueUnder : Condition → HistoryView → Claimed → Type 0
-IsTrueUnder condition history claimed = IsTrueBy condition.is_local condition.is_weakly_empty (contents_of history) claimed
+IsTrueUnder condition history claimed =
+    IsTrueBy condition.is_local condition.is_weakly_empty (contents_of history) claimed
 
 -- ---- what is shrunk
 
@@ -67,12 +71,14 @@ IsTrueUnder condition history claimed = IsTrueBy condition.is_local condition.is
 abbrev pub IsRefutedBy : Bool → Bool → Contents → Contents → Type 0
 IsRefutedBy false false whole part = part ≡ whole
 IsRefutedBy false true whole part = part ≡ without_empties whole
-IsRefutedBy true is_weak whole part = (p : Producer) × (violation : Violation) × IsFirstRefuted (emptiness_if is_weak) whole p violation
+IsRefutedBy true is_weak whole part = (p : Producer) × (violation : Violation)
+    × IsFirstRefuted (emptiness_if is_weak) whole p violation
     × (part ≡ selection_of (emptiness_if is_weak) p whole)
 
 -- the part of a history in which a `NO` under the condition is found
 abbrev pub IsRefutedPart : Condition → HistoryView → HistoryView → Type 0
-IsRefutedPart condition history part = IsRefutedBy condition.is_local condition.is_weakly_empty (contents_of history) (contents_of part)
+IsRefutedPart condition history part =
+    IsRefutedBy condition.is_local condition.is_weakly_empty (contents_of history) (contents_of part)
 
 -- it doesn't meet the condition, while every other selection of it does
 abbrev pub IsMinimalBy : Bool → Bool → Contents → Type 0

@@ -70,11 +70,13 @@ DrawsPart true text OfText answer = IsDrawnWithout text OfText answer
 
 -- ---- of a complete history
 
--- the picture with the claim, if they are small and the claim is evidence; but the linearizations of several producers have none
+-- the picture with the claim, if they are small and the claim is evidence; but the linearizations of several producers
+-- have none
 abbrev pub DrawsSound : DrawOptions → Option ℕ → ClaimOnText → Reply → Type 0
 DrawsSound options added claim answer = Whether (IsSmall options claim)
     (Whether (IsEvident (strict options.condition) claim)
-    (Whether (IsOneOrder options.condition.is_local claim.claimed) (answer ≡ drawn (picture_of options added (said_by claim.text) claim.claimed))
+    (Whether (IsOneOrder options.condition.is_local claim.claimed)
+    (answer ≡ drawn (picture_of options added (said_by claim.text) claim.claimed))
     (answer ≡ refused_orders))
     (answer ≡ verified false))
     (answer ≡ refused_size)
@@ -91,16 +93,20 @@ pub record DrawsDecided (options : DrawOptions) (added : Option ℕ) (text : His
 -- the first fault of the history, or the picture with the claim, if they are small and the claim is evidence
 abbrev pub DrawsClaim : DrawOptions → ClaimOnText → Reply → Type 0
 DrawsClaim options claim answer = FaultOr (said_by claim.text)
-    (DrawsPart options.condition.is_weakly_empty claim.text (λ text a. DrawsSound options None (claim_on text claim.claimed) a)) answer
+    (DrawsPart options.condition.is_weakly_empty claim.text
+    (λ text a. DrawsSound options None (claim_on text claim.claimed) a)) answer
 
 -- the first fault of the history, or the picture with the claim of its verdict
 abbrev pub DrawsHistory : DrawOptions → HistoryText → Reply → Type 0
-DrawsHistory options text answer = FaultOr (said_by text) (DrawsPart options.condition.is_weakly_empty text (DrawsDecided options None)) answer
+DrawsHistory options text answer =
+    FaultOr (said_by text) (DrawsPart options.condition.is_weakly_empty text (DrawsDecided options None)) answer
 
--- why there is no completion; or its picture with the claim of its verdict, in which the calls that it answers are open
+-- why there is no completion; or its picture with the claim of its verdict, in which the calls that it answers are
+-- open
 abbrev pub DrawsPending : DrawOptions → PendingText → Reply → Type 0
 DrawsPending options text answer = FaultOrCompletion text
-    (DrawsPart options.condition.is_weakly_empty (completion_in text) (DrawsDecided options (Some (next_ticket text.events)))) answer
+    (DrawsPart options.condition.is_weakly_empty (completion_in text)
+    (DrawsDecided options (Some (next_ticket text.events)))) answer
 
 -- a text that counts its pending calls is drawn as its completion, and the text of a history as this
 abbrev pub DrawsAlone : DrawOptions → PendingText → Option ℕ → Reply → Type 0

@@ -38,7 +38,8 @@ SameOrNoMemory a b = (a ≡ b) ⊎ ((a ≡ memory_fault) ⊎ (b ≡ memory_fault
 
 -- two answers that a command may give of one input are the same, out of memory aside
 abbrev pub HasOneAnswer : Request → Type 0
-HasOneAnswer request = (input : Ahead) (a b : Reply) → AnswersOf request input a → AnswersOf request input b → SameOrNoMemory a b
+HasOneAnswer request = (input : Ahead) (a b : Reply) → AnswersOf request input a → AnswersOf request input b
+    → SameOrNoMemory a b
 
 -- ---- evidence
 
@@ -53,8 +54,10 @@ IsVerdictOrNoMemory claimed answer = (answer ≡ judged claimed) ⊎ (answer ≡
 -- where `check` answers an input with a verdict, `verify` answers that input, followed by the verdict's text, with
 -- `VALID`
 abbrev pub CheckedIsValid : Type 0
-CheckedIsValid = (bytes : List ℕ) (claimed : Claimed) (answer : Reply) → AnswersOf (check linearizability) (input_of bytes) (judged claimed)
-    → AnswersOf (verify linearizability) (input_of (bytes ++ answer_text (judged claimed))) answer → IsValidOrNoMemory answer
+CheckedIsValid = (bytes : List ℕ) (claimed : Claimed) (answer : Reply)
+    → AnswersOf (check linearizability) (input_of bytes) (judged claimed)
+    → AnswersOf (verify linearizability) (input_of (bytes ++ answer_text (judged claimed))) answer
+    → IsValidOrNoMemory answer
 
 -- so it is under each condition, if `verify` can read a text of as many lines
 abbrev pub CheckedIsValidUnder : Condition → Type 0
@@ -64,15 +67,18 @@ CheckedIsValidUnder condition = (bytes : List ℕ) (claimed : Claimed) (answer :
 
 -- and a `NO` under any condition is evidence that the history isn't linearizable
 abbrev pub RefutedIsValid : Condition → Type 0
-RefutedIsValid condition = (bytes : List ℕ) (kind : ViolationKind) (lines : List ClaimLine) (answer : Reply) → HasVerdictText (claim.No kind lines)
+RefutedIsValid condition = (bytes : List ℕ) (kind : ViolationKind) (lines : List ClaimLine) (answer : Reply)
+    → HasVerdictText (claim.No kind lines)
     → AnswersOf (check condition) (input_of bytes) (judged (claim.No kind lines))
-    → AnswersOf (verify linearizability) (input_of (bytes ++ answer_text (judged (claim.No kind lines)))) answer → IsValidOrNoMemory answer
+    → AnswersOf (verify linearizability) (input_of (bytes ++ answer_text (judged (claim.No kind lines)))) answer
+    → IsValidOrNoMemory answer
 
 -- where `shrink` answers an input with a history and its verdict, `verify` answers these two texts with `VALID`
 abbrev pub ShrunkIsValid : Condition → Type 0
 ShrunkIsValid condition = (bytes : List ℕ) (small : HistoryText) (claimed : Claimed) (answer : Reply)
     → AnswersOf (shrink condition) (input_of bytes) (shown small claimed)
-    → AnswersOf (verify linearizability) (input_of (answer_text (shown small claimed))) answer → IsValidOrNoMemory answer
+    → AnswersOf (verify linearizability) (input_of (answer_text (shown small claimed))) answer
+    → IsValidOrNoMemory answer
 
 -- and `check` answers the text of that history with that same verdict, or memory runs out
 abbrev pub ShrunkIsChecked : Condition → Type 0
@@ -80,48 +86,63 @@ ShrunkIsChecked condition = (bytes : List ℕ) (small : HistoryText) (claimed : 
     → AnswersOf (shrink condition) (input_of bytes) (shown small claimed)
     → AnswersOf (check linearizability) (input_of (text_of small)) answer → IsVerdictOrNoMemory claimed answer
 
--- where `stress` answers with a history that has a text, and its verdict, `check` answers that text with this very verdict, or memory
--- runs out
+-- where `stress` answers with a history that has a text, and its verdict, `check` answers that text with this very
+-- verdict, or memory runs out
 abbrev pub StressedIsChecked : Condition → Type 0
-StressedIsChecked condition = (count : ℕ) (lists : List (List Event)) (text : HistoryText) (claimed : Claimed) (answer : Reply) → HasText text
-    → IsShownRun condition count lists (shown text claimed) → AnswersOf (check condition) (input_of (text_of text)) answer
+StressedIsChecked condition =
+    (count : ℕ) (lists : List (List Event)) (text : HistoryText) (claimed : Claimed) (answer : Reply) → HasText text
+    → IsShownRun condition count lists (shown text claimed)
+    → AnswersOf (check condition) (input_of (text_of text)) answer
     → IsVerdictOrNoMemory claimed answer
 
 -- and `verify` answers the two texts with `VALID`
 abbrev pub StressedIsValid : Type 0
-StressedIsValid = (count : ℕ) (lists : List (List Event)) (text : HistoryText) (claimed : Claimed) (answer : Reply) → HasText text
+StressedIsValid = (count : ℕ) (lists : List (List Event)) (text : HistoryText) (claimed : Claimed) (answer : Reply)
+    → HasText text
     → IsShownRun linearizability count lists (shown text claimed)
-    → AnswersOf (verify linearizability) (input_of (answer_text (shown text claimed))) answer → IsValidOrNoMemory answer
+    → AnswersOf (verify linearizability) (input_of (answer_text (shown text claimed))) answer
+    → IsValidOrNoMemory answer
 
 -- so it does under each condition, if it can read a text of as many lines
 abbrev pub StressedIsValidUnder : Condition → Type 0
-StressedIsValidUnder condition = (count : ℕ) (lists : List (List Event)) (text : HistoryText) (claimed : Claimed) (answer : Reply) → HasText text
+StressedIsValidUnder condition =
+    (count : ℕ) (lists : List (List Event)) (text : HistoryText) (claimed : Claimed) (answer : Reply) → HasText text
     → HasVerdictText claimed → IsShownRun condition count lists (shown text claimed)
     → AnswersOf (verify condition) (input_of (answer_text (shown text claimed))) answer → IsValidOrNoMemory answer
 
--- where `sim` answers with a history that has a text, and its verdict, `check` answers that text with this very verdict, or memory runs out
+-- where `sim` answers with a history that has a text, and its verdict, `check` answers that text with this very
+-- verdict, or memory runs out
 abbrev pub SimulatedIsChecked : Type 0
-SimulatedIsChecked = (bytes : List ℕ) (rejected : List Rejection) (events : List Event) (claimed : Claimed) (answer : Reply) → HasHistoryText events
-    → AnswersOf sim (input_of bytes) (played rejected events claimed) → AnswersOf (check linearizability) (input_of (history_text events)) answer
+SimulatedIsChecked =
+    (bytes : List ℕ) (rejected : List Rejection) (events : List Event) (claimed : Claimed) (answer : Reply)
+    → HasHistoryText events
+    → AnswersOf sim (input_of bytes) (played rejected events claimed)
+    → AnswersOf (check linearizability) (input_of (history_text events)) answer
     → IsVerdictOrNoMemory claimed answer
 
 -- and `verify` answers the two texts with `VALID`
 abbrev pub SimulatedIsValid : Type 0
-SimulatedIsValid = (bytes : List ℕ) (rejected : List Rejection) (events : List Event) (claimed : Claimed) (answer : Reply) → HasHistoryText events
+SimulatedIsValid =
+    (bytes : List ℕ) (rejected : List Rejection) (events : List Event) (claimed : Claimed) (answer : Reply)
+    → HasHistoryText events
     → AnswersOf sim (input_of bytes) (played rejected events claimed)
-    → AnswersOf (verify linearizability) (input_of (history_text events ++ verdict_text claimed)) answer → IsValidOrNoMemory answer
+    → AnswersOf (verify linearizability) (input_of (history_text events ++ verdict_text claimed)) answer
+    → IsValidOrNoMemory answer
 
--- where `check` answers an input with a verdict, `draw` without a weaker condition answers that input as it answers it followed
--- by the verdict's text, or memory runs out
+-- where `check` answers an input with a verdict, `draw` without a weaker condition answers that input as it answers it
+-- followed by the verdict's text, or memory runs out
 abbrev pub DrawnAsChecked : DrawOptions → Type 0
-DrawnAsChecked options = options.condition ≡ linearizability → (bytes : List ℕ) (claimed : Claimed) (a b : Reply) → AnswersOf (check linearizability) (input_of bytes) (judged claimed)
-    → AnswersOf (draw options) (input_of bytes) a → AnswersOf (draw options) (input_of (bytes ++ answer_text (judged claimed))) b → SameOrNoMemory a b
+DrawnAsChecked options = options.condition ≡ linearizability → (bytes : List ℕ) (claimed : Claimed) (a b : Reply)
+    → AnswersOf (check linearizability) (input_of bytes) (judged claimed)
+    → AnswersOf (draw options) (input_of bytes) a
+    → AnswersOf (draw options) (input_of (bytes ++ answer_text (judged claimed))) b → SameOrNoMemory a b
 
 -- ---- completions
 
 -- what `complete` answers with is the text of a complete history
 abbrev pub CompletedIsHistory : Bool → Type 0
-CompletedIsHistory takes_cut = (bytes : List ℕ) (to : HistoryText) → AnswersOf (complete takes_cut) (input_of bytes) (converted to)
+CompletedIsHistory takes_cut = (bytes : List ℕ) (to : HistoryText)
+    → AnswersOf (complete takes_cut) (input_of bytes) (converted to)
     → IsHistoryOf (input_of (text_of to)) to × IsSound (said_by to)
 
 -- the verdict is that there is a linearization
@@ -133,18 +154,21 @@ IsYes (claim.No kind lines) = ⊥
 abbrev pub CompletedIsDecided : Bool → Type 0
 CompletedIsDecided takes_cut = (bytes : List ℕ) (text : PendingText) (to : HistoryText) (claimed : Claimed)
     → IsPendingOf takes_cut (input_of bytes) text → AnswersOf (complete takes_cut) (input_of bytes) (converted to)
-    → AnswersOf (check linearizability) (input_of (text_of to)) (judged claimed) → IsYes claimed ↔ CompletesLinearizably text.initial text.events
+    → AnswersOf (check linearizability) (input_of (text_of to)) (judged claimed)
+    → IsYes claimed ↔ CompletesLinearizably text.initial text.events
 
 -- a complete history comes out as it is
 abbrev pub CompletedIsKept : Bool → Type 0
-CompletedIsKept takes_cut = (bytes : List ℕ) (text to : HistoryText) → IsHistoryOf (input_of bytes) text → IsSound (said_by text)
+CompletedIsKept takes_cut = (bytes : List ℕ) (text to : HistoryText) → IsHistoryOf (input_of bytes) text
+    → IsSound (said_by text)
     → AnswersOf (complete takes_cut) (input_of bytes) (converted to) → text_of to ≡ bytes
 
 -- ---- conversions
 
 -- where `convert` answers a text with another, both say one history, and the other is the text of it in version 2
 abbrev pub ConvertedIsSameHistory : Type 0
-ConvertedIsSameHistory = (bytes : List ℕ) (text to : HistoryText) → IsHistoryOf (input_of bytes) text → AnswersOf convert (input_of bytes) (converted to)
+ConvertedIsSameHistory = (bytes : List ℕ) (text to : HistoryText) → IsHistoryOf (input_of bytes) text
+    → AnswersOf convert (input_of bytes) (converted to)
     → (said_by to ≡ said_by text) × (to.version ≡ Two) × IsHistoryOf (input_of (text_of to)) to
 
 -- a text of version 2 comes out as it is: so what was converted is converted to the same bytes
@@ -154,16 +178,22 @@ ConvertedIsKept = (bytes : List ℕ) (text to : HistoryText) → IsHistoryOf (in
 
 -- `check` answers a text and its conversion alike, or memory runs out
 abbrev pub ConvertedIsChecked : Condition → Type 0
-ConvertedIsChecked condition = (bytes : List ℕ) (to : HistoryText) (a b : Reply) → AnswersOf convert (input_of bytes) (converted to)
-    → AnswersOf (check condition) (input_of bytes) a → AnswersOf (check condition) (input_of (text_of to)) b → SameOrNoMemory a b
+ConvertedIsChecked condition = (bytes : List ℕ) (to : HistoryText) (a b : Reply)
+    → AnswersOf convert (input_of bytes) (converted to)
+    → AnswersOf (check condition) (input_of bytes) a → AnswersOf (check condition) (input_of (text_of to)) b
+    → SameOrNoMemory a b
 
 -- so does `stats`
 abbrev pub ConvertedIsCounted : Bool → Type 0
-ConvertedIsCounted overtakes = (bytes : List ℕ) (to : HistoryText) (a b : Reply) → AnswersOf convert (input_of bytes) (converted to)
-    → AnswersOf (stats overtakes) (input_of bytes) a → AnswersOf (stats overtakes) (input_of (text_of to)) b → SameOrNoMemory a b
+ConvertedIsCounted overtakes = (bytes : List ℕ) (to : HistoryText) (a b : Reply)
+    → AnswersOf convert (input_of bytes) (converted to)
+    → AnswersOf (stats overtakes) (input_of bytes) a → AnswersOf (stats overtakes) (input_of (text_of to)) b
+    → SameOrNoMemory a b
 
 -- `verify` answers a claim alike behind a text and behind its conversion, or memory runs out
 abbrev pub ConvertedIsVerified : Condition → Type 0
-ConvertedIsVerified condition = (bytes : List ℕ) (to : HistoryText) (claimed : Claimed) (a b : Reply) → HasVerdictText claimed
-    → AnswersOf convert (input_of bytes) (converted to) → AnswersOf (verify condition) (input_of (bytes ++ verdict_text claimed)) a
+ConvertedIsVerified condition = (bytes : List ℕ) (to : HistoryText) (claimed : Claimed) (a b : Reply)
+    → HasVerdictText claimed
+    → AnswersOf convert (input_of bytes) (converted to)
+    → AnswersOf (verify condition) (input_of (bytes ++ verdict_text claimed)) a
     → AnswersOf (verify condition) (input_of (text_of to ++ verdict_text claimed)) b → SameOrNoMemory a b

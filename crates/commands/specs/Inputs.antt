@@ -9,7 +9,8 @@ use Rattle.history_text.specs.Schedules.{schedule_text, HasScheduleText, IsSched
 use Rattle.history_text.specs.Verdicts.{verdict_text}
 use Rattle.history_text.specs.Claims.{HasVerdictText, IsVerdictTextFault, NoRoomForVerdict}
 use Rattle.history_text.specs.Reading.{IsEndFault}
-use Rattle.history_text.specs.Pending.{HasPendingText, IsPendingTextFault, NoRoomForPending, pending_line_count, pending_text}
+use Rattle.history_text.specs.Pending.{HasPendingText, IsPendingTextFault, NoRoomForPending, pending_line_count}
+use Rattle.history_text.specs.Pending.{pending_text}
 use Rattle.history_text.specs.declared.pending_text.PendingText.{PendingText}
 use Rattle.text_lines.specs.Input.{Ahead, Ending, EndOfInput}
 
@@ -31,11 +32,13 @@ pub record AfterText {A : Type 0} (Has : A → Type 0) (text_of : A → List ℕ
 
 -- the fault of input that should be the text of one of these values and then something else: that of the text, or of
 -- what comes after it; out of memory says that a line without fault was there
-abbrev pub IsFaultOfTexts : {A : Type 0} → (A → Type 0) → (A → List ℕ) → (Ending → List ℕ → TextFault → Type 0) → (List ℕ → Type 0)
+abbrev pub IsFaultOfTexts : {A : Type 0} → (A → Type 0) → (A → List ℕ) → (Ending → List ℕ → TextFault → Type 0)
+    → (List ℕ → Type 0)
     → (A → Ending → List ℕ → TextFault → Type 0) → (A → List ℕ → Type 0) → Ahead → TextFault → Type 0
 IsFaultOfTexts Has text_of IsFirst LacksRoom IsNext LacksNext input fault =
     MemoryOr (LacksRoom input.bytes ⊎ AfterText Has text_of LacksNext input.bytes)
-    (λ f. IsFirst input.ending input.bytes f ⊎ AfterText Has text_of (λ value rest. IsNext value input.ending rest f) input.bytes)
+    (λ f. IsFirst input.ending input.bytes f
+    ⊎ AfterText Has text_of (λ value rest. IsNext value input.ending rest f) input.bytes)
     fault
 
 -- the fault of input that should be over: another byte, or a read that fails
@@ -43,7 +46,8 @@ abbrev pub IsFaultOfEnd : Ending → List ℕ → TextFault → Type 0
 IsFaultOfEnd ending rest fault = IsEndFault (record { bytes = rest; ending = ending }) fault
 
 -- the fault of input that should be the text of one of these values and nothing more
-abbrev pub IsFaultOfOneText : {A : Type 0} → (A → Type 0) → (A → List ℕ) → (Ending → List ℕ → TextFault → Type 0) → (List ℕ → Type 0) → Ahead
+abbrev pub IsFaultOfOneText : {A : Type 0} → (A → Type 0) → (A → List ℕ) → (Ending → List ℕ → TextFault → Type 0)
+    → (List ℕ → Type 0) → Ahead
     → TextFault → Type 0
 IsFaultOfOneText Has text_of IsFirst LacksRoom input fault =
     IsFaultOfTexts Has text_of IsFirst LacksRoom (λ _. IsFaultOfEnd) (λ _ _. ⊥) input fault
@@ -66,7 +70,8 @@ IsScheduleOf input schedule = HasScheduleText schedule × IsWhole (schedule_text
 
 -- the fault of input that should be the text of one schedule
 abbrev pub IsFaultOfScheduleInput : Ahead → TextFault → Type 0
-IsFaultOfScheduleInput input fault = IsFaultOfOneText HasScheduleText schedule_text (IsScheduleTextFault 0) NoRoomForSchedule input fault
+IsFaultOfScheduleInput input fault =
+    IsFaultOfOneText HasScheduleText schedule_text (IsScheduleTextFault 0) NoRoomForSchedule input fault
 
 -- ---- a history, and a verdict on it
 
@@ -112,8 +117,8 @@ abbrev pub IsDrawableOf : Ahead → Drawable → Type 0
 IsDrawableOf input (alone text) = HasPendingText text × IsWhole (pending_text text) input
 IsDrawableOf input (with_claim claim) = IsClaimOf input claim
 
--- the fault of what comes after a text, by its number of lines: after one that counts pending calls, that the input isn't over;
--- after a history that of a verdict, but input that is over has none
+-- the fault of what comes after a text, by its number of lines: after one that counts pending calls, that the input
+-- isn't over; after a history that of a verdict, but input that is over has none
 abbrev pub FaultBehind : Option ℕ → ℕ → Ending → List ℕ → TextFault → Type 0
 FaultBehind (Some calls) lines ending rest fault = IsFaultOfEnd ending rest fault
 FaultBehind None lines ending rest fault =
@@ -130,4 +135,5 @@ LacksVerdict text rest = (text.open_calls ≡ None) × NoRoomForVerdict rest
 -- the fault of input that should be such a text, and a verdict on a history if anything follows
 abbrev pub IsFaultOfDrawableInput : Ahead → TextFault → Type 0
 IsFaultOfDrawableInput input fault =
-    IsFaultOfTexts HasPendingText pending_text (IsPendingTextFault false 0) NoRoomForPending IsFaultBehind LacksVerdict input fault
+    IsFaultOfTexts HasPendingText pending_text
+    (IsPendingTextFault false 0) NoRoomForPending IsFaultBehind LacksVerdict input fault

@@ -31,7 +31,8 @@ use Rattle.command_words.specs.Options.{linearizability}
 use Rattle.command_words.specs.declared.options.Condition.{Condition}
 use Rattle.commands.specs.Conditions.{IsDecidedUnder, IsMinimalUnder, IsRefutedPart, IsTrueUnder, Meets}
 use Rattle.commands.specs.Inputs.{ClaimOnText}
-use Rattle.commands.specs.Answers.{Reply, judged, shown, left_open, played, verified, converted, counted, overtaken, memory_fault, answer_of_text_fault}
+use Rattle.commands.specs.Answers.{Reply, judged, shown, left_open, played, verified, converted, counted, overtaken}
+use Rattle.commands.specs.Answers.{memory_fault, answer_of_text_fault}
 use Rattle.commands.specs.Answers.{answer_of_history_fault}
 
 -- ---- histories
@@ -48,8 +49,10 @@ from_none events = record { initial = []; events = events }
 abbrev pub IsSound : HistoryView → Type 0
 IsSound history = IsCompleteFrom history.initial history.events
 
--- made so of the claim of the chosen verdict on a history under a condition, which is evidence: `YES` if and only if it meets the condition
-pub record IsOfVerdictUnder {A : Type 0} (condition : Condition) (history : HistoryView) (made_of : Claimed → A) (made : A) : Type 0 where
+-- made so of the claim of the chosen verdict on a history under a condition, which is evidence: `YES` if and only if
+-- it meets the condition
+pub record IsOfVerdictUnder {A : Type 0} (condition : Condition) (history : HistoryView)
+    (made_of : Claimed → A) (made : A) : Type 0 where
   pub verdict : Verdict
   pub decided : IsDecidedUnder condition history verdict
   pub is : made ≡ made_of (claim_of history.initial (operations_of history.events) verdict)
@@ -105,7 +108,8 @@ pub record IsShrunk (text : HistoryText) (answer : Reply) : Type 0 where
   pub shortest : HasShortestCover (said_by text) violation
   pub answered : IsOfVerdict small (shown (said_in text.version small)) answer
 
--- what shows a `NO` under a weaker condition: what `shrink` shows of the part in which it is found, which is minimal for the condition
+-- what shows a `NO` under a weaker condition: what `shrink` shows of the part in which it is found, which is minimal
+-- for the condition
 pub record IsShrunkPart (condition : Condition) (text : HistoryText) (answer : Reply) : Type 0 where
   pub part : HistoryView
   pub found : IsRefutedPart condition (said_by text) part
@@ -123,7 +127,8 @@ ShrinksBy true is_weak text answer = IsShrunkPart (record { is_local = true; is_
 
 -- of a complete history: its verdict if that is `YES`, or what shows `NO`
 abbrev pub ShrinksSound : Condition → HistoryText → Reply → Type 0
-ShrinksSound condition text answer = Whether (Meets condition (said_by text)) (IsOfVerdictUnder condition (said_by text) judged answer)
+ShrinksSound condition text answer =
+    Whether (Meets condition (said_by text)) (IsOfVerdictUnder condition (said_by text) judged answer)
     (ShrinksBy condition.is_local condition.is_weakly_empty text answer)
 
 -- `shrink`: the first fault of the history, or its verdict if that is `YES`, or what shows `NO`
@@ -139,7 +144,8 @@ IsEvident condition claim = IsTrueUnder condition (said_by claim.text) claim.cla
 -- `verify`: the first fault of the history, or whether the claim is evidence
 abbrev pub Verifies : Condition → ClaimOnText → Reply → Type 0
 Verifies condition claim answer =
-    FaultOr (said_by claim.text) (λ a. Whether (IsEvident condition claim) (a ≡ verified true) (a ≡ verified false)) answer
+    FaultOr (said_by claim.text)
+    (λ a. Whether (IsEvident condition claim) (a ≡ verified true) (a ≡ verified false)) answer
 
 -- ---- conversions
 
@@ -175,7 +181,8 @@ pub record IsPlayed (setting : Setting) (schedule : List Attempt) (answer : Repl
   pub events : List Event
   pub merged : IsMerged (collected_lists setting schedule) events
   pub complete : IsCompleteHistory events
-  pub answered : IsOfVerdict (record { initial = setting.initial; events = events }) (played (rejections setting schedule) events) answer
+  pub answered : IsOfVerdict (record { initial = setting.initial; events = events })
+      (played (rejections setting schedule) events) answer
 
 -- what is answered of these steps in this setting, by whether the machine is done
 abbrev pub SimulatesIn : Setting → List Attempt → Reply → Type 0
@@ -185,12 +192,15 @@ SimulatesIn setting schedule answer =
 
 -- `sim`: the steps tried one after another, where no growth is refused
 abbrev pub Simulates : Schedule → Reply → Type 0
-Simulates schedule answer = SimulatesIn (record { threads = schedule.threads; ring = schedule.ring; initial = [] }) (schedule_of schedule.steps) answer
+Simulates schedule answer =
+    SimulatesIn (record { threads = schedule.threads; ring = schedule.ring; initial = [] })
+    (schedule_of schedule.steps) answer
 
 -- ---- inputs
 
 -- the answer is that of what the input says
-pub record IsOfValue {A : Type 0} (IsInputOf : Ahead → A → Type 0) (OfValue : A → Reply → Type 0) (input : Ahead) (answer : Reply) : Type 0 where
+pub record IsOfValue {A : Type 0} (IsInputOf : Ahead → A → Type 0) (OfValue : A → Reply → Type 0) (input : Ahead)
+    (answer : Reply) : Type 0 where
   pub value : A
   pub input_of : IsInputOf input value
   pub answered : OfValue value answer
@@ -207,5 +217,7 @@ AnswersOrNoMemory OfValue value answer = OfValue value answer ⊎ (answer ≡ me
 
 -- what is answered of an input: the answer of what it says, or its fault. Out of memory is answered where the input
 -- says something, or where a line without fault stands in it
-abbrev pub AnswersFor : {A : Type 0} → (Ahead → A → Type 0) → (Ahead → TextFault → Type 0) → (A → Reply → Type 0) → Ahead → Reply → Type 0
-AnswersFor IsInputOf IsFaultOf OfValue input answer = IsOfValue IsInputOf (AnswersOrNoMemory OfValue) input answer ⊎ IsOfFault IsFaultOf input answer
+abbrev pub AnswersFor : {A : Type 0} → (Ahead → A → Type 0) → (Ahead → TextFault → Type 0) → (A → Reply → Type 0)
+    → Ahead → Reply → Type 0
+AnswersFor IsInputOf IsFaultOf OfValue input answer = IsOfValue IsInputOf (AnswersOrNoMemory OfValue) input answer
+    ⊎ IsOfFault IsFaultOf input answer

@@ -13,12 +13,15 @@ use Rattle.stress_run.specs.Faults as run_names
 use Rattle.claims.specs.Claiming.{claim_of, IsWithin}
 use Rattle.std.specs.declared.result.Result.{Result}
 use Rattle.commands.specs.declared.outcome.Report.{Report}
-use Rattle.commands.specs.declared.outcome.Report.TheVariants.{Judged, Shown, LeftOpen, Played, Verified, Converted, Completed, Counted}
+use Rattle.commands.specs.declared.outcome.Report.TheVariants.{Judged, Shown, LeftOpen, Played, Verified, Converted}
+use Rattle.commands.specs.declared.outcome.Report.TheVariants.{Completed, Counted}
 use Rattle.commands.specs.declared.outcome.Report.TheVariants.{Drawn, Overtaken}
 use Rattle.commands.specs.declared.outcome.Fault.{Fault}
 use Rattle.commands.specs.declared.outcome.Fault.TheVariants.{Text, History, Size, Orders, Queue, Limit, Memory, Run}
-use Rattle.commands.specs.Answers.{Reply, judged, shown, left_open, played, verified, converted, counted, overtaken, drawn, refused_orders, refused_size}
-use Rattle.commands.specs.Answers.{refused_queue, refused_limit, memory_fault, run_fault, answer_of_text_fault, answer_of_history_fault}
+use Rattle.commands.specs.Answers.{Reply, judged, shown, left_open, played, verified, converted, counted, overtaken}
+use Rattle.commands.specs.Answers.{drawn, refused_orders, refused_size}
+use Rattle.commands.specs.Answers.{refused_queue, refused_limit, memory_fault, run_fault, answer_of_text_fault}
+use Rattle.commands.specs.Answers.{answer_of_history_fault}
 
 -- the answer that is printed of what was found: of a verdict what it claims, of the rest the same
 abbrev pub answer_of_report : Report → Reply
@@ -30,7 +33,8 @@ answer_of_report (Played rejections history verdict) =
     played rejections history.events (claim_of history.initial (operations_of history.events) verdict)
 answer_of_report (Verified valid) = verified valid
 answer_of_report (Converted history) = converted (said_in Two history)
-answer_of_report (Completed version initial events) = converted (record { version = version; initial = initial; events = events })
+answer_of_report (Completed version initial events) =
+    converted (record { version = version; initial = initial; events = events })
 answer_of_report (Counted statistics) = counted statistics
 answer_of_report (Overtaken overtakings) = overtaken overtakings.items
 answer_of_report (Drawn picture) = drawn picture.items
@@ -86,7 +90,8 @@ HasPlaces (Judged history verdict) = IsWithin history.initial (operations_of his
 HasPlaces (Shown version history verdict) =
     IsWithin history.initial (operations_of history.events) verdict × (version ≡ One → history.initial ≡ [])
 HasPlaces (Completed version initial events) = version ≡ One → initial ≡ []
-HasPlaces (Played rejections history verdict) = IsWithin history.initial (operations_of history.events) verdict × (history.initial ≡ [])
+HasPlaces (Played rejections history verdict) = IsWithin history.initial (operations_of history.events) verdict
+    × (history.initial ≡ [])
 HasPlaces _ = ⊤
 
 -- what was found, if anything was, has such places

@@ -10,18 +10,21 @@ use Rattle.clap.specs.declared.error.kind.ErrorKind.{ErrorKind}
 use Rattle.clap.specs.declared.error.kind.ErrorKind.TheVariants as kind
 use Rattle.command_words.specs.Commands.{Request, check, shrink, verify, draw, convert, complete, stats, sim, stress}
 use Rattle.commands.specs.Answers.{Reply, memory_fault, answer_text, answer_status, said_text}
-use Rattle.commands.specs.Inputs.{IsHistoryOf, IsFaultOfHistoryInput, IsScheduleOf, IsFaultOfScheduleInput, IsClaimOf, IsFaultOfClaimInput}
+use Rattle.commands.specs.Inputs.{IsHistoryOf, IsFaultOfHistoryInput, IsScheduleOf, IsFaultOfScheduleInput, IsClaimOf}
+use Rattle.commands.specs.Inputs.{IsFaultOfClaimInput}
 use Rattle.commands.specs.Inputs.{IsDrawableOf, IsFaultOfDrawableInput}
 use Rattle.commands.specs.Completing.{Completes, IsFaultOfPendingInput, IsPendingOf}
 use Rattle.commands.specs.Drawing.{Draws}
 use Rattle.commands.specs.Judging.{AnswersFor, Judges, Shrinks, Verifies, Converts, Counts, Simulates}
 
--- where the writer refused nothing the text is written whole, with this status; else a prefix of it is, and the status is 3
+-- where the writer refused nothing the text is written whole, with this status; else a prefix of it is, and the status
+-- is 3
 abbrev pub Prints : Option (List ℕ) → Option (List ℕ) → Bool → ℕ → List ℕ → ℕ → Type 0
 Prints old new false result text status = Appends old new text × (result ≡ status)
 Prints old new true result text status = AppendsFront old new text × (result ≡ 3)
 
--- where nothing was refused the writer took bytes and then was flushed, once; else the refusal was the last that it was asked
+-- where nothing was refused the writer took bytes and then was flushed, once; else the refusal was the last that it
+-- was asked
 abbrev pub WritesAndFlushes : {S : Type 0} → (S → Asked → S → Type 0) → Bool → S → S → Type 0
 WritesAndFlushes transition false old new = IsFlushed transition old new
 WritesAndFlushes transition true old new = IsRefused transition old new
@@ -41,7 +44,8 @@ PrintsAnswer old new refused result answer = Prints old new refused result (answ
 
 -- the same of an answer that may be asked for quietly
 abbrev pub PrintsSaid : Bool → Option (List ℕ) → Option (List ℕ) → Bool → ℕ → Reply → Type 0
-PrintsSaid quiet old new refused result answer = Prints old new refused result (said_text quiet answer) (answer_status answer)
+PrintsSaid quiet old new refused result answer =
+    Prints old new refused result (said_text quiet answer) (answer_status answer)
 
 -- this was printed to a writer behind a buffer, which holds nothing back unless the writer refused
 pub record Behind (Printed : Option (List ℕ) → Bool → Type 0) (new : Option (List ℕ)) : Type 0 where
@@ -53,17 +57,20 @@ pub record Behind (Printed : Option (List ℕ) → Bool → Type 0) (new : Optio
 -- what a command answers of an input; `stress` reads none
 abbrev pub AnswersOf : Request → Ahead → Reply → Type 0
 AnswersOf (check condition) input answer = AnswersFor IsHistoryOf IsFaultOfHistoryInput (Judges condition) input answer
-AnswersOf (shrink condition) input answer = AnswersFor IsHistoryOf IsFaultOfHistoryInput (Shrinks condition) input answer
+AnswersOf (shrink condition) input answer =
+    AnswersFor IsHistoryOf IsFaultOfHistoryInput (Shrinks condition) input answer
 AnswersOf (verify condition) input answer = AnswersFor IsClaimOf IsFaultOfClaimInput (Verifies condition) input answer
 AnswersOf (draw options) input answer = AnswersFor IsDrawableOf IsFaultOfDrawableInput (Draws options) input answer
 AnswersOf convert input answer = AnswersFor IsHistoryOf IsFaultOfHistoryInput Converts input answer
-AnswersOf (complete takes_cut) input answer = AnswersFor (IsPendingOf takes_cut) (IsFaultOfPendingInput takes_cut) Completes input answer
+AnswersOf (complete takes_cut) input answer =
+    AnswersFor (IsPendingOf takes_cut) (IsFaultOfPendingInput takes_cut) Completes input answer
 AnswersOf (stats overtakes) input answer = AnswersFor IsHistoryOf IsFaultOfHistoryInput (Counts overtakes) input answer
 AnswersOf sim input answer = AnswersFor IsScheduleOf IsFaultOfScheduleInput Simulates input answer
 AnswersOf (stress settings) input answer = Unit {0}
 
 -- an answer of this kind was printed, quietly or whole
-pub record PrintsOneOf (quiet : Bool) (IsAnswer : Reply → Type 0) (old new : Option (List ℕ)) (refused : Bool) (result : ℕ) : Type 0 where
+pub record PrintsOneOf (quiet : Bool) (IsAnswer : Reply → Type 0) (old new : Option (List ℕ)) (refused : Bool)
+    (result : ℕ) : Type 0 where
   pub answer : Reply
   pub right : IsAnswer answer
   pub printed : PrintsSaid quiet old new refused result answer
@@ -87,4 +94,5 @@ pub record PrintsUsage (kinds : Kinds) (old new : Option (List ℕ)) (refused : 
 
 -- other arguments have a text about the use of the program, or memory ran out
 abbrev pub ExplainsUse : Kinds → Option (List ℕ) → Option (List ℕ) → Bool → ℕ → Type 0
-ExplainsUse kinds old new refused result = PrintsUsage kinds old new refused result ⊎ PrintsAnswer old new refused result memory_fault
+ExplainsUse kinds old new refused result = PrintsUsage kinds old new refused result
+    ⊎ PrintsAnswer old new refused result memory_fault

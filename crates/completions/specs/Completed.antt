@@ -1,5 +1,6 @@
 -- The completion that decides a history with pending calls.
-use Rattle.std.specs.Prelude.{ℕ, ◌+◌, ◌++◌, ◌&&◌, Bool, true, false, not, nat_eq, List, [], ◌∷◌, filter, filter_map, Option, Some, None}
+use Rattle.std.specs.Prelude.{ℕ, ◌+◌, ◌++◌, ◌&&◌, Bool, true, false, not, nat_eq, List, [], ◌∷◌, filter, filter_map}
+use Rattle.std.specs.Prelude.{Option, Some, None}
 use Rattle.std.specs.Prelude.{option_and_then, if◌then◌else◌}
 use Rattle.std.specs.List.{cons_option, last_or, list_any}
 use Rattle.std.specs.Option.{option_map_or}
@@ -14,7 +15,9 @@ use Rattle.completions.specs.declared.answers.Answer.{Answer}
 
 -- whether the event is a pending call: the last event of its thread, and a call
 abbrev pub is_pending : List Event → Event → Bool
-is_pending events e = is_call e.what && option_map_or (λ last. nat_eq last.ticket e.ticket) (last_or None (projection e.thread events)) false
+is_pending events e =
+    is_call e.what && option_map_or (λ last. nat_eq last.ticket e.ticket)
+    (last_or None (projection e.thread events)) false
 
 -- the value that a return gives
 abbrev pub given_value : What → Option ℕ
@@ -52,7 +55,8 @@ pending_calls events = filter (is_pending events) events
 -- the answer to a pending enqueue whose value a dequeue gave: that it succeeded
 abbrev pub enqueue_answer : List Event → Event → Option Answer
 enqueue_answer events call =
-    option_and_then (λ v. (if is_given events v then Some (record { call = call; what = RetEnq }) else None)) (called_value call.what)
+    option_and_then (λ v. (if is_given events v then Some (record { call = call; what = RetEnq }) else None))
+    (called_value call.what)
 
 -- whether the call is a dequeue
 abbrev pub calls_dequeue : Event → Bool
@@ -66,7 +70,8 @@ paired _ _ = []
 -- the answers to pending calls: those to enqueues, and then those to dequeues, which give the values that are left
 abbrev pub answers_to : List ℕ → List Event → List Answer
 answers_to initial events =
-    filter_map (enqueue_answer events) (pending_calls events) ++ paired (filter calls_dequeue (pending_calls events)) (left_values initial events)
+    filter_map (enqueue_answer events) (pending_calls events)
+    ++ paired (filter calls_dequeue (pending_calls events)) (left_values initial events)
 
 -- whether one of these answers is to this call
 abbrev pub is_answered : List Answer → Event → Bool
@@ -83,11 +88,13 @@ next_ticket events = option_map_or (λ last. last.ticket + 1) (last_or None even
 -- the returns of answered calls, one ticket after another from this one on
 abbrev pub returns_from : ℕ → List Answer → List Event
 returns_from ticket [] = []
-returns_from ticket (a ∷ answers) = record { ticket = ticket; thread = a.call.thread; what = a.what } ∷ returns_from (ticket + 1) answers
+returns_from ticket (a ∷ answers) =
+    record { ticket = ticket; thread = a.call.thread; what = a.what } ∷ returns_from (ticket + 1) answers
 
 -- the events without the pending calls that aren't answered, and then the returns of the others
 abbrev pub completed_by : List Event → List Answer → List Event
-completed_by events answers = filter (λ e. not (is_left_out events answers e)) events ++ returns_from (next_ticket events) answers
+completed_by events answers =
+    filter (λ e. not (is_left_out events answers e)) events ++ returns_from (next_ticket events) answers
 
 -- the completion: pending dequeues give, in the order of their calls, the values that are left, in the order in which
 -- these came in

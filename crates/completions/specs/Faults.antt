@@ -16,10 +16,12 @@ IsBeyondLimits initial events = (MAX_EVENTS < length (completed initial events))
 
 -- there is no fault, or the first is that a call is pending
 abbrev pub MayBePending : List ℕ → List Event → Type 0
-MayBePending initial events = IsCompleteFrom initial events ⊎ ((ticket : ℕ) × IsFirstFault initial events (history.Pending ticket))
+MayBePending initial events = IsCompleteFrom initial events
+    ⊎ ((ticket : ℕ) × IsFirstFault initial events (history.Pending ticket))
 
 -- the first fault of the initial values and events, unless it is that a call is pending; or a completion beyond the
 -- limits
 abbrev pub IsCompletionFault : List ℕ → List Event → CompletionFault → Type 0
-IsCompletionFault initial events (History fault) = IsFirstFault initial events fault × ((ticket : ℕ) → fault ≢ history.Pending ticket)
+IsCompletionFault initial events (History fault) = IsFirstFault initial events fault
+    × ((ticket : ℕ) → fault ≢ history.Pending ticket)
 IsCompletionFault initial events Limit = MayBePending initial events × IsBeyondLimits initial events

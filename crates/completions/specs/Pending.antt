@@ -1,5 +1,6 @@
 -- Histories whose calls may be pending, and their completions (Herlihy and Wing 1990, section 2.2).
-use Rattle.std.specs.Prelude.{◌≡◌, ℕ, ◌<◌, ◌≤◌, ◌++◌, Bool, true, false, not, IsTrue, List, [], ◌∷◌, All, Contains, filter, Some, ⊤}
+use Rattle.std.specs.Prelude.{◌≡◌, ℕ, ◌<◌, ◌≤◌, ◌++◌, Bool, true, false, not, IsTrue, List, [], ◌∷◌, All, Contains}
+use Rattle.std.specs.Prelude.{filter, Some, ⊤}
 use Rattle.event_records.specs.declared.event.Event.{Event}
 use Rattle.event_records.specs.declared.limits.TheConstants.{MAX_THREAD, MAX_TICKET}
 use Rattle.event_records.specs.Projection.{projection}
@@ -42,7 +43,8 @@ pub record IsCompletion (initial : List ℕ) (events full : List Event) : Type 0
 
 -- some completion has a linearization from these initial values
 abbrev pub CompletesLinearizably : List ℕ → List Event → Type 0
-CompletesLinearizably initial events = (full : List Event) × IsCompletion initial events full × IsLinearizable initial (operations_of full)
+CompletesLinearizably initial events = (full : List Event) × IsCompletion initial events full
+    × IsLinearizable initial (operations_of full)
 
 -- this completion decides: it has a linearization if and only if some completion has one
 pub record IsDeciding (initial : List ℕ) (events full : List Event) : Type 0 where

@@ -25,7 +25,8 @@ claim_on whole verdict = claim_of whole.initial whole.operations verdict
 
 -- the claim of a local verdict is evidence under local linearizability
 abbrev pub LocalEvidenceIsTrueClaim : Type 0
-LocalEvidenceIsTrueClaim = (emptiness : Emptiness) (whole : Contents) (found : LocalVerdict) → IsLocallyDecided emptiness whole found
+LocalEvidenceIsTrueClaim = (emptiness : Emptiness) (whole : Contents) (found : LocalVerdict)
+    → IsLocallyDecided emptiness whole found
     → IsTrueLocalClaim emptiness whole (claim_on whole (verdict_of found))
 
 -- the claim of a verdict without the empty dequeues is evidence without them
@@ -48,30 +49,37 @@ SaysOf Condition (No kind lines) = ¬ Condition
 
 -- a claim that is evidence asserts correctly whether the history is locally linearizable
 abbrev pub TrueLocalClaimDecides : Type 0
-TrueLocalClaimDecides = (emptiness : Emptiness) (history : HistoryView) (said : Claimed) → IsCompleteFrom history.initial history.events
+TrueLocalClaimDecides = (emptiness : Emptiness) (history : HistoryView) (said : Claimed)
+    → IsCompleteFrom history.initial history.events
     → length history.initial ≤ MAX_INITIAL → IsTrueLocalClaim emptiness (contents_of history) said
     → SaysOf (IsLocallyLinearizable emptiness (contents_of history)) said
 
 -- a claim that is evidence without empty dequeues asserts correctly whether the history is linearizable without them
 abbrev pub TrueWeakClaimDecides : Type 0
-TrueWeakClaimDecides = (history : HistoryView) (said : Claimed) → IsCompleteFrom history.initial history.events → length history.initial ≤ MAX_INITIAL
+TrueWeakClaimDecides = (history : HistoryView) (said : Claimed) → IsCompleteFrom history.initial history.events
+    → length history.initial ≤ MAX_INITIAL
     → IsTrueWeakClaim (contents_of history) said → SaysOf (IsWeaklyLinearizable (contents_of history)) said
 
 -- ---- one verdict
 
 -- two local verdicts on a history have the same claim
 abbrev pub LocalVerdictIsOne : Type 0
-LocalVerdictIsOne = (emptiness : Emptiness) (history : HistoryView) (x y : LocalVerdict) → IsCompleteFrom history.initial history.events
-    → length history.initial ≤ MAX_INITIAL → IsLocallyDecided emptiness (contents_of history) x → IsLocallyDecided emptiness (contents_of history) y
+LocalVerdictIsOne = (emptiness : Emptiness) (history : HistoryView) (x y : LocalVerdict)
+    → IsCompleteFrom history.initial history.events
+    → length history.initial ≤ MAX_INITIAL → IsLocallyDecided emptiness (contents_of history) x
+    → IsLocallyDecided emptiness (contents_of history) y
     → claim_on (contents_of history) (verdict_of x) ≡ claim_on (contents_of history) (verdict_of y)
 
 -- two verdicts without the empty dequeues have the same claim
 abbrev pub WeakVerdictIsOne : Type 0
-WeakVerdictIsOne = (history : HistoryView) (x y : Verdict) → IsCompleteFrom history.initial history.events → length history.initial ≤ MAX_INITIAL
+WeakVerdictIsOne = (history : HistoryView) (x y : Verdict) → IsCompleteFrom history.initial history.events
+    → length history.initial ≤ MAX_INITIAL
     → IsDecidedOf (contents_of history) (without_empties (contents_of history)) x
-    → IsDecidedOf (contents_of history) (without_empties (contents_of history)) y → claim_on (contents_of history) x ≡ claim_on (contents_of history) y
+    → IsDecidedOf (contents_of history) (without_empties (contents_of history)) y
+    → claim_on (contents_of history) x ≡ claim_on (contents_of history) y
 
 -- only one producer is the first whose selection has no linearization
 abbrev pub FirstRefutedIsOne : Type 0
-FirstRefutedIsOne = (emptiness : Emptiness) (whole : Contents) (p q : Producer) (x y : Violation) → IsFirstRefuted emptiness whole p x
+FirstRefutedIsOne = (emptiness : Emptiness) (whole : Contents) (p q : Producer) (x y : Violation)
+    → IsFirstRefuted emptiness whole p x
     → IsFirstRefuted emptiness whole q y → p ≡ q

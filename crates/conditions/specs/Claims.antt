@@ -36,7 +36,8 @@ selections_of emptiness whole = map (λ p. selection_of emptiness p whole) (prod
 -- them
 abbrev pub IsTrueLocalClaim : Emptiness → Contents → Claimed → Type 0
 IsTrueLocalClaim emptiness whole (Yes lines) = AreOrdersInTurn (selections_of emptiness whole) lines
-IsTrueLocalClaim emptiness whole (No kind lines) = (p : Producer) × IsTrueOf (selection_of emptiness p whole) (No kind lines)
+IsTrueLocalClaim emptiness whole (No kind lines) = (p : Producer)
+    × IsTrueOf (selection_of emptiness p whole) (No kind lines)
 
 -- a `YES` with the linearizations one after another, or the `NO`
 abbrev pub verdict_of : LocalVerdict → Verdict

@@ -1,5 +1,6 @@
 -- Conditions weaker than linearizability: selections of a history are linearizable.
-use Rattle.std.specs.Prelude.{ℕ, ◌<◌, ◌&&◌, Bool, true, false, nat_eq, List, ◌∷◌, filter, find, is_some, map, Option, Some, option_map, ⊤, if◌then◌else◌}
+use Rattle.std.specs.Prelude.{ℕ, ◌<◌, ◌&&◌, Bool, true, false, nat_eq, List, ◌∷◌, filter, find, is_some, map, Option}
+use Rattle.std.specs.Prelude.{Some, option_map, ⊤, if◌then◌else◌}
 use Rattle.std.specs.List.{list_any, range_with_len}
 use Rattle.std.specs.Option.{option_map_or}
 use Rattle.event_records.specs.declared.limits.TheConstants.{MAX_THREADS}
@@ -33,7 +34,8 @@ enqueues v o = option_map_or (λ w. nat_eq w v) (enqueued_value o.kind) false
 -- nobody enqueues it
 abbrev pub producer_of : Contents → ℕ → Option Producer
 producer_of whole v =
-    (if is_initial whole.initial v then Some Initial else option_map (λ o. Thread o.thread) (find (enqueues v) whole.operations))
+    (if is_initial whole.initial v then Some Initial else option_map (λ o. Thread o.thread)
+    (find (enqueues v) whole.operations))
 
 -- whether two producers are equal
 abbrev pub is_producer : Producer → Producer → Bool

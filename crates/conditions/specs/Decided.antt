@@ -23,9 +23,11 @@ use Rattle.conditions.specs.Laws.{ShowsIn}
 -- violation in the selection too
 abbrev pub IsEvidenceOf : Contents → Contents → Verdict → Type 0
 IsEvidenceOf whole selected (Yes places) =
-    (order : List Operation) × ArePlacesOf whole.operations places order × IsLegalOrder selected.initial selected.operations order
+    (order : List Operation) × ArePlacesOf whole.operations places order
+    × IsLegalOrder selected.initial selected.operations order
 IsEvidenceOf whole selected (No violation) = IsEvidence whole.initial whole.operations (No violation)
-    × ShowsIn selected (violation_kind violation) (lines_at whole.initial whole.operations (violation_places violation))
+    × ShowsIn selected (violation_kind violation)
+    (lines_at whole.initial whole.operations (violation_places violation))
 
 -- the verdict, by places of the whole history, has the same claim as the chosen verdict on the selection
 abbrev pub ClaimsAsChosen : Contents → Contents → Verdict → Type 0
@@ -49,7 +51,8 @@ pub record AreLocalOrders (emptiness : Emptiness) (whole : Contents) (orders : L
   pub decided : All (λ x. IsDecidedOf whole (selection_of emptiness x.producer whole) (Yes x.order)) orders
 
 -- the verdict on the selection of the first producer whose selection has no linearization
-pub record IsFirstRefuted (emptiness : Emptiness) (whole : Contents) (p : Producer) (violation : Violation) : Type 0 where
+pub record IsFirstRefuted (emptiness : Emptiness) (whole : Contents) (p : Producer)
+    (violation : Violation) : Type 0 where
   pub decided : IsDecidedOf whole (selection_of emptiness p whole) (No violation)
   pub first : (q : Producer) → ComesBefore q p → AreLinearizable (selection_of emptiness q whole)
 

@@ -56,7 +56,8 @@ cover_bands (enq ∷ deq ∷ rest) = sure_until enq (line_call deq) ∷ cover_ba
 -- after it was enqueued and dequeued
 abbrev pub order_bands : ClaimLine → List ClaimLine → List Band
 order_bands enq_a (enq_b ∷ deq_b ∷ rest) =
-    sure_until enq_a (option_and_then line_call (slice_get rest 0)) ∷ time_of (InAndOut (line_value enq_b)) (line_call enq_b) (line_return deq_b) ∷ []
+    sure_until enq_a (option_and_then line_call (slice_get rest 0))
+    ∷ time_of (InAndOut (line_value enq_b)) (line_call enq_b) (line_return deq_b) ∷ []
 order_bands enq_a _ = []
 
 -- the bands of a `NO` of this kind. For a phantom dequeue: when its value was definitely not in the queue, before any
@@ -66,7 +67,8 @@ order_bands enq_a _ = []
 abbrev pub bands_by : List ClaimLine → ViolationKind → List Band
 bands_by [] kind = []
 bands_by (deq ∷ rest) VFresh =
-    time_of (NotIn (line_value deq)) None (enqueue_call rest) ∷ time_of (Dequeued (line_value deq)) (line_call deq) (line_return deq) ∷ []
+    time_of (NotIn (line_value deq)) None (enqueue_call rest)
+    ∷ time_of (Dequeued (line_value deq)) (line_call deq) (line_return deq) ∷ []
 bands_by (enq ∷ rest) VRepeat = time_of (InOrOut (line_value enq)) None None ∷ []
 bands_by (enq_a ∷ later) VOrd = order_bands enq_a later
 bands_by (empty ∷ cover) VWit = cover_bands cover ++ time_of SaidEmpty (line_call empty) (line_return empty) ∷ []
@@ -102,7 +104,9 @@ gap_time (Some ticket) = ticket + 1
 
 -- the band holds this gap: it has begun, and hasn't ended
 abbrev pub holds : Band → Option ℕ → Bool
-holds band gap = nat_le (gap_time band.first) (gap_time gap) && (not (is_some band.last) || nat_lt (gap_time gap) (gap_time band.last))
+holds band gap =
+    nat_le (gap_time band.first) (gap_time gap) &&
+    (not (is_some band.last) || nat_lt (gap_time gap) (gap_time band.last))
 
 -- the form of a band in a row at this gap; nothing if the band doesn't hold the gap
 abbrev pub form_at : Band → Option ℕ → List ℕ

@@ -51,7 +51,8 @@ before_words (Initial v) = codes " was in the queue (1) before "
 -- the caption of an order violation: a came in before b, but b was dequeued before a, or a never
 unfoldable pub overtaking_caption : ClaimLine → ClaimLine → List ℕ → List ℕ → List ℕ
 overtaking_caption a b between end =
-    concat (line_text a ∷ before_words a ∷ line_text b ∷ line (codes " (2),") ∷ codes "but " ∷ line_text b ∷ between ∷ line_text a ∷ end ∷ [])
+    concat (line_text a ∷ before_words a ∷ line_text b ∷ line (codes " (2),") ∷ codes "but " ∷ line_text b ∷ between
+    ∷ line_text a ∷ end ∷ [])
 
 -- the operation of a line never returned
 abbrev pub never_returned : Option ℕ → ClaimLine → Bool
@@ -70,9 +71,11 @@ end_words true = line (codes " only by a call that never returned (4).")
 
 -- the caption of an order violation with a and the lines after it
 abbrev pub order_caption : Option ℕ → ClaimLine → List ClaimLine → List ℕ
-order_caption added_from a (b ∷ deq_b ∷ []) = overtaking_caption a b (codes " was dequeued (3) and ") (line (codes " never was."))
+order_caption added_from a (b ∷ deq_b ∷ []) =
+    overtaking_caption a b (codes " was dequeued (3) and ") (line (codes " never was."))
 order_caption added_from a (b ∷ deq_b ∷ deq_a ∷ rest) =
-    overtaking_caption a b (between_words (never_returned added_from deq_a)) (end_words (never_returned added_from deq_a))
+    overtaking_caption a b (between_words (never_returned added_from deq_a))
+    (end_words (never_returned added_from deq_a))
 order_caption added_from a _ = []
 
 -- the moment of a ticket, or the one before all tickets
@@ -82,12 +85,14 @@ moment_text (Some ticket) = codes "ticket " ++ decimal ticket
 
 -- the moment from which a value of a cover was definitely in the queue, with the number of its enqueue
 unfoldable pub cover_from : ℕ → ClaimLine → List ℕ
-cover_from number enq = concat (line_text enq ∷ codes " from " ∷ moment_text (line_return enq) ∷ codes " (" ∷ decimal number ∷ [])
+cover_from number enq =
+    concat (line_text enq ∷ codes " from " ∷ moment_text (line_return enq) ∷ codes " (" ∷ decimal number ∷ [])
 
 -- the time in which a value of a cover was definitely in the queue, with the numbers of its enqueue and its dequeue
 unfoldable pub one_of_cover : ℕ → ClaimLine → ClaimLine → List ℕ
 one_of_cover number enq deq =
-    cover_from number enq ++ concat (codes ") to " ∷ moment_text (line_call deq) ∷ codes " (" ∷ decimal (number + 1) ∷ line (codes ")") ∷ [])
+    cover_from number enq ++ concat
+    (codes ") to " ∷ moment_text (line_call deq) ∷ codes " (" ∷ decimal (number + 1) ∷ line (codes ")") ∷ [])
 
 -- the lines of the values of a cover, numbered from this number on
 abbrev pub cover_caption : ℕ → List ClaimLine → List ℕ

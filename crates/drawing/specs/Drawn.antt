@@ -1,6 +1,7 @@
 -- The drawn operations of a history: all of them, or for a `NO` those that it lists, those that overlap one of these,
 -- and those near by. The drawn initial values: those of the claim and of these operations.
-use Rattle.std.specs.Prelude.{ℕ, ◌-◌, ◌&&◌, ◌||◌, not, nat_lt, nat_le, nat_eq, Bool, false, Option, Some, None, List, [], ◌∷◌, filter, flat_map, map, count_by}
+use Rattle.std.specs.Prelude.{ℕ, ◌-◌, ◌&&◌, ◌||◌, not, nat_lt, nat_le, nat_eq, Bool, false, Option, Some, None, List}
+use Rattle.std.specs.Prelude.{[], ◌∷◌, filter, flat_map, map, count_by}
 use Rattle.std.specs.List.{list_any}
 use Rattle.event_records.specs.declared.event.Event.{Event}
 use Rattle.history_merge.specs.Initial.{HistoryView}
@@ -61,7 +62,8 @@ is_initial v (Op o) = false
 
 -- an initial value is drawn if a `NO` lists it, or a drawn operation has it
 abbrev pub is_drawn_initial : Claimed → List Operation → ℕ → Bool
-is_drawn_initial claimed drawn v = list_any (is_initial v) (shown_by claimed) || list_any (λ o. has_value v o.kind) drawn
+is_drawn_initial claimed drawn v =
+    list_any (is_initial v) (shown_by claimed) || list_any (λ o. has_value v o.kind) drawn
 
 -- the initial values that are drawn, front first
 abbrev pub drawn_initial : HistoryView → Claimed → List Operation → List ℕ

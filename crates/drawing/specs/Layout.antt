@@ -71,13 +71,15 @@ threads_of operations = filter (has_operations operations) (range_with_len 0 (MA
 -- the length of the longest label of initial values and operations, or of `empty`
 abbrev pub label_width : List ℕ → List Operation → ℕ
 label_width initial operations =
-    fold (λ widest len. max widest len) 5 (map (λ v. length (initial_label v)) initial ++ map (λ o. length (label o.kind)) operations)
+    fold (λ widest len. max widest len) 5
+    (map (λ v. length (initial_label v)) initial ++ map (λ o. length (label o.kind)) operations)
 
 -- ---- operations in rows
 
 -- the operation is of this thread, was called by this ticket, and hasn't returned before it, or never returned
 abbrev pub is_under_way : Option ℕ → ℕ → ℕ → Operation → Bool
-is_under_way added_from thread ticket o = nat_eq o.thread thread && (nat_le o.call ticket && (nat_le ticket o.ret || is_pending added_from o))
+is_under_way added_from thread ticket o =
+    nat_eq o.thread thread && (nat_le o.call ticket && (nat_le ticket o.ret || is_pending added_from o))
 
 -- the operation of this thread that is under way at a ticket
 abbrev pub under_way : Option ℕ → List Operation → ℕ → ℕ → Option Operation

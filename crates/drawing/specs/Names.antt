@@ -8,7 +8,9 @@ use Rattle.drawing.specs.declared.names.Name.TheVariants.{OfThread, OfInitial, P
 -- a name by its owner: a thread from 1 on, the initial values, or none; values of thread 0 are short without a name
 abbrev pub name_by : ℕ → ℕ → ℕ → Name
 name_by owner number v =
-    if owner == 0 then Plain v else (if nat_lt owner MAX_THREADS then OfThread owner number else (if owner == MAX_THREADS then OfInitial number else Plain v))
+    if owner == 0 then Plain v else
+    (if nat_lt owner MAX_THREADS then OfThread owner number else
+    (if owner == MAX_THREADS then OfInitial number else Plain v))
 
 -- the name of a value
 abbrev pub name_of : ℕ → Name

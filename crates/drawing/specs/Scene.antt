@@ -1,6 +1,7 @@
 -- The scene of a picture, which characters and pixels draw alike: its rows from top to bottom, and its lanes side by
 -- side.
-use Rattle.std.specs.Prelude.{ℕ, ◌+◌, ◌-◌, ◌==◌, ◌&&◌, ◌||◌, if◌then◌else◌, max, fold, length, decimal, nat_lt, nat_eq, Bool, Option}
+use Rattle.std.specs.Prelude.{ℕ, ◌+◌, ◌-◌, ◌==◌, ◌&&◌, ◌||◌, if◌then◌else◌, max, fold, length, decimal, nat_lt, nat_eq}
+use Rattle.std.specs.Prelude.{Bool, Option}
 use Rattle.std.specs.Prelude.{Some, None, List, [], ◌∷◌, ◌++◌, count_by, codes, option_map}
 use Rattle.std.specs.List.{concat, find, flat_map, enumerate_from, list_any}
 use Rattle.event_records.specs.declared.event.Event.{Event}
@@ -59,7 +60,8 @@ values_left_out count drawn = if count == 0 then [] else ValuesLeftOut count dra
 abbrev pub initial_rows : List ℕ → List ℕ → List Row
 initial_rows [] drawn = []
 initial_rows (front ∷ others) drawn =
-    Head ∷ (flat_map initial_row (enumerate_from 0 drawn) ++ values_left_out (length (front ∷ others) - length drawn) (length drawn))
+    Head ∷ (flat_map initial_row (enumerate_from 0 drawn)
+    ++ values_left_out (length (front ∷ others) - length drawn) (length drawn))
 
 -- the row of the effect of operation i of an order, if it comes just after this ticket
 abbrev pub effect_if : List Operation → ℕ → ℕ × Operation → List Row
@@ -85,13 +87,15 @@ left_out_rows count last = if count == 0 then [] else LeftOut count last ∷ []
 abbrev pub rows_after : List Operation → List Operation → ℕ → ℕ → List Event → List Row
 rows_after drawn order count last [] = left_out_rows count last
 rows_after drawn order count last (e ∷ later) =
-    if has_row drawn e.ticket then left_out_rows count last ++ (event_rows order e ++ rows_after drawn order 0 last later)
+    if has_row drawn e.ticket then left_out_rows count last
+    ++ (event_rows order e ++ rows_after drawn order 0 last later)
     else rows_after drawn order (count + 1) e.ticket later
 
 -- the rows of a history, a claim about it, and its drawn operations
 unfoldable pub rows_of : HistoryView → Claimed → List Operation → List Row
 rows_of history claimed drawn =
-    initial_rows history.initial (drawn_initial history claimed drawn) ++ rows_after drawn (order_of claimed) 0 0 history.events
+    initial_rows history.initial (drawn_initial history claimed drawn)
+    ++ rows_after drawn (order_of claimed) 0 0 history.events
 
 -- the scene of a history, a claim about it, its drawn operations, and the ticket from which its returns were added
 unfoldable pub scene_of : HistoryView → Claimed → List Operation → Option ℕ → SceneView
@@ -131,7 +135,9 @@ row_turn (Effect o number point) = number
 
 -- a row is above another
 abbrev pub stands_above : Row → Row → Bool
-stands_above other row = nat_lt (row_time other) (row_time row) || (nat_eq (row_time other) (row_time row) && nat_lt (row_turn other) (row_turn row))
+stands_above other row =
+    nat_lt (row_time other) (row_time row) ||
+    (nat_eq (row_time other) (row_time row) && nat_lt (row_turn other) (row_turn row))
 
 -- the number of a row, from 0, which is the number of rows above it
 unfoldable pub row_number : List Row → Row → ℕ

@@ -5,7 +5,8 @@ use Rattle.claims.specs.declared.claimed.Claimed.{Claimed}
 use Rattle.claims.specs.declared.claimed.Claimed.TheVariants.{Yes, No}
 use Rattle.claims.specs.declared.claimed.ViolationKind.TheVariants.{VFresh, VRepeat, VOrd, VWit}
 use Rattle.drawing.specs.declared.signs.Sign.{Sign}
-use Rattle.drawing.specs.declared.signs.Sign.TheVariants.{First, InOrder, OfOperations, OfValues, Present, Absent, Dequeued, InAndOut, SaidEmpty, Away, Pending}
+use Rattle.drawing.specs.declared.signs.Sign.TheVariants.{First, InOrder, OfOperations, OfValues, Present, Absent}
+use Rattle.drawing.specs.declared.signs.Sign.TheVariants.{Dequeued, InAndOut, SaidEmpty, Away, Pending}
 use Rattle.drawing.specs.Drawn.{is_away}
 use Rattle.drawing.specs.Pending.{is_pending}
 use Rattle.drawing.specs.Scene.{SceneView}

@@ -10,7 +10,8 @@ use Rattle.text_lines.specs.Lines.{line}
 use Rattle.drawing.specs.Claim.{count_of_lines, shown_by}
 use Rattle.drawing.specs.declared.columns.Columns.{Columns}
 use Rattle.drawing.specs.declared.bands.Band.{Band}
-use Rattle.drawing.specs.Layout.{digits, label, numbered, initial_label, label_width, under_way, called_at, place_in, number_at}
+use Rattle.drawing.specs.Layout.{digits, label, numbered, initial_label, label_width, under_way, called_at, place_in}
+use Rattle.drawing.specs.Layout.{number_at}
 use Rattle.drawing.specs.Bands.{head_text, form_at}
 use Rattle.drawing.specs.Drawn.{is_away}
 use Rattle.drawing.specs.Pending.{is_pending}
@@ -21,7 +22,8 @@ use Rattle.drawing.specs.Words.{Word, line_of}
 use Rattle.drawing.specs.Captions.{headline, caption}
 use Rattle.drawing.specs.Signs.{signs_of, meaning}
 use Rattle.drawing.specs.declared.signs.Sign.{Sign}
-use Rattle.drawing.specs.declared.signs.Sign.TheVariants.{First, InOrder, OfOperations, OfValues, Present, Absent, Away, Pending}
+use Rattle.drawing.specs.declared.signs.Sign.TheVariants.{First, InOrder, OfOperations, OfValues, Present, Absent}
+use Rattle.drawing.specs.declared.signs.Sign.TheVariants.{Away, Pending}
 use Rattle.drawing.specs.declared.columns.TheConstants.{ROWS_UNDER_HEADS, WIDE_LANES}
 use Rattle.drawing.specs.declared.terminal.TheConstants.{LANE_MEANINGS}
 
@@ -53,7 +55,8 @@ columns_for ticket room lane lanes = record {
 -- the columns of a scene
 abbrev pub columns_of : SceneView → Columns
 columns_of scene =
-    columns_for (ticket_width scene.added_from scene.rows) (room_beside scene.claimed (label_width scene.initial scene.operations) (length scene.bands))
+    columns_for (ticket_width scene.added_from scene.rows)
+    (room_beside scene.claimed (label_width scene.initial scene.operations) (length scene.bands))
     (lane_width (length scene.threads) (count_of_lines scene.claimed)) (length scene.threads)
 
 -- the column of a thread's lane, to the right of those of lower threads
@@ -77,7 +80,8 @@ event_sign columns scene ticket o =
     let away = is_away scene.claimed o in
     let shown = if columns.lane == 1 then [] else shown_by scene.claimed in
     if o.call == ticket then one_of away (codes "(") (codes "[") ++ number_at (place_in shown (row.Ticket o.call))
-    else (if returns_at scene ticket o then one_of away (codes ")") (codes "]") else one_of away (codes ":") (codes "|"))
+    else (if returns_at scene ticket o then one_of away (codes ")") (codes "]")
+    else one_of away (codes ":") (codes "|"))
 
 -- the sign in a lane in a row, by the operation that is under way: in the row of an effect its sign, or the bar of
 -- another
@@ -85,7 +89,8 @@ abbrev pub lane_sign : Columns → SceneView → Row → Option Operation → Li
 lane_sign columns scene (row.Ticket ticket) (Some o) = event_sign columns scene ticket o
 lane_sign columns scene (row.LeftOut count last) (Some o) = one_of (is_away scene.claimed o) (codes ":") (codes "|")
 lane_sign columns scene (row.Effect effect number point) (Some o) =
-    if o.call == effect.call then (if columns.lane == 1 then codes "*" else decimal number) else (if returns_at scene point o then [] else codes "|")
+    if o.call == effect.call then (if columns.lane == 1 then codes "*" else decimal number) else
+    (if returns_at scene point o then [] else codes "|")
 lane_sign columns scene r under = []
 
 -- the signs in the lanes of a row
@@ -112,7 +117,8 @@ band_words columns bands gap = map (band_word columns gap) (enumerate_from 0 ban
 
 -- the words beside the tickets: the number and the label of an effect, or whether a value goes in or out
 abbrev pub beside_words : Claimed → Row → List ℕ
-beside_words claimed (row.Effect effect number point) = numbered (digits (count_of_lines claimed)) (decimal number) (label effect.kind)
+beside_words claimed (row.Effect effect number point) =
+    numbered (digits (count_of_lines claimed)) (decimal number) (label effect.kind)
 beside_words claimed r = way_in claimed r
 
 -- the label of an operation, and whether its call is pending
@@ -124,7 +130,8 @@ abbrev pub call_label : Columns → SceneView → Option Operation → List ℕ
 call_label columns scene None = []
 call_label columns scene (Some o) =
     let shown = shown_by scene.claimed in
-    if columns.lane == 1 then numbered (digits (length shown)) (number_at (place_in shown (row.Ticket o.call))) (operation_label scene o)
+    if columns.lane == 1 then numbered (digits (length shown)) (number_at (place_in shown (row.Ticket o.call)))
+    (operation_label scene o)
     else operation_label scene o
 
 -- the words to the right of the bands or the lanes: the head of the initial values, one of these with its number, or
@@ -133,7 +140,9 @@ abbrev pub told_word : Columns → SceneView → Row → Word
 told_word columns scene row.Head = record { column = columns.lanes; bytes = codes "in the queue first" }
 told_word columns scene (row.Initial place v) = record {
   column = columns.lanes;
-  bytes = numbered (digits (count_of_lines scene.claimed)) (number_at (place_in (shown_by scene.claimed) (row.Initial place v))) (initial_label v);
+  bytes =
+      numbered (digits (count_of_lines scene.claimed))
+      (number_at (place_in (shown_by scene.claimed) (row.Initial place v))) (initial_label v);
 }
 told_word columns scene (row.Ticket ticket) = record {
   column = columns.label;
@@ -144,7 +153,10 @@ told_word columns scene r = record { column = columns.label; bytes = [] }
 -- the words of a row
 unfoldable pub row_words : Columns → SceneView → Row → List Word
 row_words columns scene r =
-    record { column = columns.ticket - length (ticket_words scene.added_from r); bytes = ticket_words scene.added_from r }
+    record {
+      column = columns.ticket - length (ticket_words scene.added_from r);
+      bytes = ticket_words scene.added_from r;
+    }
     ∷ record { column = columns.beside; bytes = beside_words scene.claimed r }
     ∷ (band_words columns scene.bands (gap_of r) ++ (lane_words columns scene r ++ told_word columns scene r ∷ []))
 
@@ -156,7 +168,8 @@ strokes columns n = map (λ i. record { column = band_column columns i + 1; byte
 
 -- a line of the first strokes, and of a word at a column
 abbrev pub under : Columns → ℕ → ℕ → List ℕ → List ℕ
-under columns bands column bytes = line (line_of (strokes columns bands ++ record { column = column; bytes = bytes } ∷ []))
+under columns bands column bytes =
+    line (line_of (strokes columns bands ++ record { column = column; bytes = bytes } ∷ []))
 
 -- the line of the head of band i
 abbrev pub head_line : Columns → ℕ × Band → List ℕ
@@ -176,29 +189,36 @@ thread_digits narrow false thread = decimal (if narrow then thread % 10 else thr
 -- the numbers of the threads above their lanes
 abbrev pub lane_names : Columns → List ℕ → Bool → List ℕ → List Word
 lane_names columns all tens threads =
-    map (λ thread. record { column = lane_column columns all thread; bytes = thread_digits (columns.lane == 1) tens thread }) threads
+    map (λ thread. record {
+      column = lane_column columns all thread;
+      bytes = thread_digits (columns.lane == 1) tens thread;
+    }) threads
 
 -- the word above the tickets, that above the order of a `YES`, and the numbers of the threads; or the tens of these
 -- alone
 abbrev pub name_words : Columns → SceneView → Bool → List Word
 name_words columns scene tens =
     (if tens then []
-    else record { column = columns.ticket - 6; bytes = codes "ticket" } ∷ record { column = columns.beside; bytes = order_word scene.claimed } ∷ [])
+    else record { column = columns.ticket - 6; bytes = codes "ticket" }
+    ∷ record { column = columns.beside; bytes = order_word scene.claimed } ∷ [])
     ++ (strokes columns (length scene.bands) ++ lane_names columns scene.threads tens scene.threads)
 
 -- the heads: those of the bands, the word above the lanes, the tens above narrow lanes, and those of the tickets and
 -- the lanes
 unfoldable pub heads : Columns → SceneView → List ℕ
 heads columns scene =
-    flat_map (head_line columns) (enumerate_from 0 scene.bands) ++ (under columns (length scene.bands) columns.lanes (codes "thread")
-    ++ ((if columns.lane == 1 then line (line_of (name_words columns scene true)) else []) ++ line (line_of (name_words columns scene false))))
+    flat_map (head_line columns) (enumerate_from 0 scene.bands)
+    ++ (under columns (length scene.bands) columns.lanes (codes "thread")
+    ++ ((if columns.lane == 1 then line (line_of (name_words columns scene true)) else [])
+    ++ line (line_of (name_words columns scene false))))
 
 -- ---- the picture
 
 -- row i, below heads of its own if it is a 40th one
 abbrev pub numbered_row : Columns → SceneView → ℕ × Row → List ℕ
 numbered_row columns scene (i, r) =
-    (if nat_lt 0 i && i % ROWS_UNDER_HEADS == 0 then heads columns scene else []) ++ line (line_of (row_words columns scene r))
+    (if nat_lt 0 i && i % ROWS_UNDER_HEADS == 0 then heads columns scene else [])
+    ++ line (line_of (row_words columns scene r))
 
 -- a sign in characters
 abbrev pub sign_text : Sign → List ℕ
@@ -229,10 +249,12 @@ legend columns scene =
 -- the text above the rows: headline, caption and legend
 unfoldable pub words : Columns → SceneView → List ℕ
 words columns scene =
-    line (headline scene.claimed) ++ (caption scene.added_from scene.claimed ++ (line [] ++ (legend columns scene ++ line [])))
+    line (headline scene.claimed)
+    ++ (caption scene.added_from scene.claimed ++ (line [] ++ (legend columns scene ++ line [])))
 
 -- the picture of a scene in lines of characters: the text above the rows, the heads, and the rows
 unfoldable pub terminal_picture : SceneView → List ℕ
 terminal_picture scene =
     words (columns_of scene) scene
-    ++ (heads (columns_of scene) scene ++ flat_map (numbered_row (columns_of scene) scene) (enumerate_from 0 scene.rows))
+    ++ (heads (columns_of scene) scene
+    ++ flat_map (numbered_row (columns_of scene) scene) (enumerate_from 0 scene.rows))

@@ -5,7 +5,8 @@ use Rattle.history_merge.specs.declared.clash.Clash.{Clash}
 use Rattle.history_merge.specs.declared.clash.Clash.TheVariants as clash
 use Rattle.history_merge.specs.declared.clash.Placed.{Placed}
 use Rattle.history_merge.specs.declared.fault.HistoryFault.{HistoryFault}
-use Rattle.history_merge.specs.declared.fault.HistoryFault.TheVariants.{TicketOrder, CallWhilePending, DuplicateValue, Pending, InitialTwice}
+use Rattle.history_merge.specs.declared.fault.HistoryFault.TheVariants.{TicketOrder, CallWhilePending, DuplicateValue}
+use Rattle.history_merge.specs.declared.fault.HistoryFault.TheVariants.{Pending, InitialTwice}
 use Rattle.history_merge.specs.Complete.{called_value}
 use Rattle.history_merge.specs.Faults.{pending_call}
 
@@ -36,8 +37,10 @@ pub record AreEqualInitial (initial : List ℕ) (value i j : ℕ) : Type 0 where
 -- call comes while a call of its thread is pending; two calls have one value; a call has an initial value; two
 -- initial values are equal; or one event, a call, never returns
 abbrev pub IsClash : List ℕ → List Event → Clash → Type 0
-IsClash initial events (clash.Tickets x y) = Stands events x × Stands events y × (suc x.place ≡ y.place) × (y.event.ticket ≤ x.event.ticket)
-IsClash initial events (clash.Calls x y) = Stands events x × Stands events y × (pending_call y.event.thread (take y.place events) ≡ Some x.event)
+IsClash initial events (clash.Tickets x y) = Stands events x × Stands events y × (suc x.place ≡ y.place)
+    × (y.event.ticket ≤ x.event.ticket)
+IsClash initial events (clash.Calls x y) = Stands events x × Stands events y
+    × (pending_call y.event.thread (take y.place events) ≡ Some x.event)
 IsClash initial events (clash.Values x y) = Stands events x × Stands events y × AreFirstWith events x y
 IsClash initial events (clash.Initial place x) = Stands events x × EnqueuesInitial initial place x
 IsClash initial events (clash.Twice value i j) = AreEqualInitial initial value i j

@@ -22,13 +22,20 @@ answered kind _ = kind
 -- the operation of a call and of the next event of its thread, if there is one; otherwise its return is 0
 abbrev pub operation_so_far : Event → Option Event → Operation
 operation_so_far call None = record { call = call.ticket; ret = 0; thread = call.thread; kind = begun call.what }
-operation_so_far call (Some answer) = record { call = call.ticket; ret = answer.ticket; thread = call.thread; kind = answered (begun call.what) answer.what }
+operation_so_far call (Some answer) =
+    record {
+      call = call.ticket;
+      ret = answer.ticket;
+      thread = call.thread;
+      kind = answered (begun call.what) answer.what;
+    }
 
 -- the operations of all calls, in their order
 abbrev pub operations_so_far : List Event → List Operation
 operations_so_far [] = []
 operations_so_far (e ∷ later) =
-    (if is_call e.what then operation_so_far e (find (λ r. nat_eq r.thread e.thread) later) ∷ operations_so_far later else operations_so_far later)
+    (if is_call e.what then operation_so_far e (find (λ r. nat_eq r.thread e.thread) later)
+    ∷ operations_so_far later else operations_so_far later)
 
 -- the call of this thread that no event of the thread follows, with its place among the operations
 abbrev pub waiting : ℕ → List Event → Option (ℕ × Event)

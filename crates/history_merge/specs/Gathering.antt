@@ -1,12 +1,14 @@
 -- The state of a history builder after these initial values and events.
-use Rattle.std.specs.Prelude.{◌≡◌, Bool, ℕ, ◌+◌, ◌<◌, ◌≤◌, ◌/◌, ◌⊎◌, min, nat_eq, true, List, [], length, IfSome, MatchOption, MatchResult}
+use Rattle.std.specs.Prelude.{◌≡◌, Bool, ℕ, ◌+◌, ◌<◌, ◌≤◌, ◌/◌, ◌⊎◌, min, nat_eq, true, List, [], length, IfSome}
+use Rattle.std.specs.Prelude.{MatchOption, MatchResult}
 use Rattle.std.specs.Prelude.{option_map, slice_index_or, All, IsSome, None, Some, Result, ◌∷◌, ◌++◌}
 use Rattle.std.specs.List.{last_or, list_any}
 use Rattle.std.specs.Option.{option_map_or}
 use Rattle.std.specs.Ordering.{nat_cmp}
 use Rattle.std.specs.BTreeSet.{contains}
 use Rattle.event_records.specs.declared.event.Event.{Event}
-use Rattle.event_records.specs.declared.limits.TheConstants.{MAX_EVENTS, MAX_INITIAL, MAX_THREAD, MAX_THREADS, NAMES_OF_A_THREAD}
+use Rattle.event_records.specs.declared.limits.TheConstants.{MAX_EVENTS, MAX_INITIAL, MAX_THREAD, MAX_THREADS}
+use Rattle.event_records.specs.declared.limits.TheConstants.{NAMES_OF_A_THREAD}
 use Rattle.history_merge.specs.declared.fault.HistoryFault.{HistoryFault}
 use Rattle.history_merge.specs.declared.fault.HistoryFault.TheVariants.{Memory, InitialTwice}
 use Rattle.history_merge.specs.declared.called.CalledValues.{CalledValues}
@@ -30,8 +32,10 @@ name_in v = min (v / NAMES_OF_A_THREAD) MAX_THREADS
 -- has it
 pub record Knows (values : List ℕ) (called : CalledValues) : Type 0 where
   pub one_each : length called.least ≡ MAX_THREADS + 1
-  pub rising : (v : ℕ) → is_among values v ≡ true → slice_index_or called.least (name_in v) 0 < LOOSE → v < slice_index_or called.least (name_in v) 0
-  pub loose : (v : ℕ) → slice_index_or called.least (name_in v) 0 ≡ LOOSE → contains nat_cmp called.loose v ≡ is_among values v
+  pub rising : (v : ℕ) → is_among values v ≡ true → slice_index_or called.least (name_in v) 0 < LOOSE
+      → v < slice_index_or called.least (name_in v) 0
+  pub loose : (v : ℕ) → slice_index_or called.least (name_in v) 0 ≡ LOOSE
+      → contains nat_cmp called.loose v ≡ is_among values v
   pub only : (v : ℕ) → contains nat_cmp called.loose v ≡ true → is_among values v ≡ true
 
 -- the operations are those of the events, the least ticket is above theirs, and each thread has the place of its
@@ -41,7 +45,8 @@ pub record HasFormed (events : List Event) (forming : Forming) : Type 0 where
   pub least_ticket : forming.least_ticket ≡ option_map_or (λ e. e.ticket + 1) (last_or None events) 0
   pub one_per_thread : length forming.pending ≡ MAX_THREAD + 1
   pub waits : (thread : ℕ) → option_map (λ found. found.1) (waiting thread events) ≡ pending_call thread events
-  pub places : (thread : ℕ) → thread ≤ MAX_THREAD → slice_index_or forming.pending thread None ≡ option_map (λ found. found.0) (waiting thread events)
+  pub places : (thread : ℕ) → thread ≤ MAX_THREAD
+      → slice_index_or forming.pending thread None ≡ option_map (λ found. found.0) (waiting thread events)
   pub threads_in_range : All (λ e. e.thread ≤ MAX_THREAD) events
 
 -- the event at this place was added and has no fault; or it has this fault, or memory ran out, and it wasn't added
@@ -72,7 +77,8 @@ abbrev pub IsFollowed : List ℕ → List Event → Event → Result (Unit {0}) 
 IsFollowed initial events e result gathering =
     MatchResult result (λ _. IsForming initial (events ++ e ∷ []) gathering)
     (λ fault. HasMetFault initial (events ++ e ∷ []) fault
-    × ((gathering.forming.timeline.initial ≡ initial) × HasFormed events gathering.forming × (gathering.count ≡ length events)))
+    × ((gathering.forming.timeline.initial ≡ initial) × HasFormed events gathering.forming
+    × (gathering.count ≡ length events)))
 
 -- the builder started with these initial values, and these events were added in turn
 pub record HasGathered (initial : List ℕ) (events : List Event) (gathering : Gathering) : Type 0 where

@@ -1,6 +1,7 @@
 -- The maximum number at once, over the gaps of a history. Gap g comes after all tickets below g, so gap 0 comes
 -- before all events.
-use Rattle.std.specs.Prelude.{◌≡◌, ◌≤◌, ℕ, Bool, false, List, ◌++◌, not, ◌&&◌, nat_eq, nat_lt, count_by, Option, Some, None, if◌then◌else◌}
+use Rattle.std.specs.Prelude.{◌≡◌, ◌≤◌, ℕ, Bool, false, List, ◌++◌, not, ◌&&◌, nat_eq, nat_lt, count_by, Option, Some}
+use Rattle.std.specs.Prelude.{None, if◌then◌else◌}
 use Rattle.std.specs.List.{list_any, filter_map}
 use Rattle.history_merge.specs.Initial.{HistoryView}
 use Rattle.history_merge.specs.Operations.{operations_of}

@@ -1,5 +1,6 @@
 -- Numbers of events and operations of a history.
-use Rattle.std.specs.Prelude.{ℕ, Bool, true, false, List, not, ◌&&◌, nat_eq, nat_lt, drop, count_by, ◌==◌, ◌*◌, ◌/◌, if◌then◌else◌}
+use Rattle.std.specs.Prelude.{ℕ, Bool, true, false, List, not, ◌&&◌, nat_eq, nat_lt, drop, count_by, ◌==◌, ◌*◌, ◌/◌}
+use Rattle.std.specs.Prelude.{if◌then◌else◌}
 use Rattle.std.specs.List.{list_any, range_with_len, zip}
 use Rattle.event_records.specs.declared.event.Event.{Event}
 use Rattle.event_records.specs.declared.limits.TheConstants.{MAX_THREADS}

@@ -1,5 +1,6 @@
 -- The number of values that the queue may have held during failed enqueues.
-use Rattle.std.specs.Prelude.{◌≡◌, ℕ, ◌<◌, ◌≤◌, Bool, List, ◌++◌, not, ◌&&◌, nat_lt, count_by, filter_map, Contains, Option, None, true, if◌then◌else◌}
+use Rattle.std.specs.Prelude.{◌≡◌, ℕ, ◌<◌, ◌≤◌, Bool, List, ◌++◌, not, ◌&&◌, nat_lt, count_by, filter_map, Contains}
+use Rattle.std.specs.Prelude.{Option, None, true, if◌then◌else◌}
 use Rattle.std.specs.List.{list_any}
 use Rattle.history_merge.specs.Initial.{HistoryView}
 use Rattle.history_merge.specs.Operations.{operations_of}
@@ -45,7 +46,8 @@ pub record IsRefusedAt (operations : List Operation) (number_at : ℕ → ℕ) (
   pub refusal : Operation
   pub is_refusal : IsRefusal operations refusal
   pub at_most : (gap : ℕ) → IsDuring refusal gap → number_at gap ≤ least
-  pub at_each : (other : Operation) → IsRefusal operations other → (gap : ℕ) × IsDuring other gap × (least ≤ number_at gap)
+  pub at_each : (other : Operation) → IsRefusal operations other
+      → (gap : ℕ) × IsDuring other gap × (least ≤ number_at gap)
 
 -- no enqueue failed
 abbrev pub NoRefusal : List Operation → Type 0

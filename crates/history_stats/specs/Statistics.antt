@@ -6,7 +6,8 @@ use Rattle.history_stats.specs.Overtaking.{greatest, overtakings}
 use Rattle.history_stats.specs.Refusing.{IsRefusedAt, NoRefusal, maybe_queued_at}
 use Rattle.history_stats.specs.declared.statistics.Statistics.{Statistics}
 use Rattle.history_stats.specs.AtOnce.{IsMost, pending_at, queued_at}
-use Rattle.history_stats.specs.Counts.{change_count, is_dequeued, is_empty, is_enqueued, is_refused, kind_count, overlapping_count, tenths_of_percent}
+use Rattle.history_stats.specs.Counts.{change_count, is_dequeued, is_empty, is_enqueued, is_refused, kind_count}
+use Rattle.history_stats.specs.Counts.{overlapping_count, tenths_of_percent}
 use Rattle.history_stats.specs.Counts.{thread_count}
 
 -- each number is that of its name
@@ -21,9 +22,11 @@ pub record AreStatisticsOf (history : HistoryView) (s : Statistics) : Type 0 whe
   pub initial : s.initial ≡ length history.initial
   pub thread_changes : s.thread_changes ≡ change_count history.events
   pub overlapping : s.overlapping ≡ overlapping_count (operations_of history.events)
-  pub overlapping_tenths : s.overlapping_tenths ≡ tenths_of_percent (overlapping_count (operations_of history.events)) (length (operations_of history.events))
+  pub overlapping_tenths : s.overlapping_tenths
+      ≡ tenths_of_percent (overlapping_count (operations_of history.events)) (length (operations_of history.events))
   pub most_pending : IsMost (pending_at (operations_of history.events)) s.most_pending
   pub most_queued : IsMost (queued_at history) s.most_queued
   pub overtakes : s.overtakes ≡ length (overtakings history)
   pub overtaken_at_most : s.overtaken_at_most ≡ greatest (map (λ o. o.count) (overtakings history))
-  pub refused_at : MatchOption s.refused_at (NoRefusal (operations_of history.events)) (IsRefusedAt (operations_of history.events) (maybe_queued_at history))
+  pub refused_at : MatchOption s.refused_at (NoRefusal (operations_of history.events))
+      (IsRefusedAt (operations_of history.events) (maybe_queued_at history))

@@ -15,7 +15,8 @@ use Rattle.claims.specs.declared.claimed.Claimed.TheVariants.{Yes, No}
 use Rattle.text_lines.specs.declared.fault.TextFault.{TextFault}
 use Rattle.text_lines.specs.declared.fault.TextFault.TheVariants.{Line}
 use Rattle.text_lines.specs.Input.{Ending}
-use Rattle.text_lines.specs.Lines.{line, greatest_value, Front, Whole, TooLong, Unfinished, Nothing, front_of, fault_at, ◌>>=◌, After}
+use Rattle.text_lines.specs.Lines.{line, greatest_value, Front, Whole, TooLong, Unfinished, Nothing, front_of}
+use Rattle.text_lines.specs.Lines.{fault_at, ◌>>=◌, After}
 use Rattle.text_lines.specs.Forms.{Table, FieldForm, Word}
 use Rattle.history_text.specs.Items.{Format, HaveLines, ItemFault, NoRoom, a_ticket, a_thread, a_value, read_by}
 use Rattle.history_text.specs.Verdicts.{operation_fields, claim_line_fields, kind_name}
@@ -47,7 +48,8 @@ valued_operation word = a_ticket ∷ a_ticket ∷ a_thread ∷ Word word ∷ a_v
 -- the forms of operation lines, each with the kind of its operations, with 0 as the value
 abbrev pub operation_forms : Table OpKind
 operation_forms =
-    (Enqueue 0, valued_operation (codes "enq")) ∷ (Dequeue 0, valued_operation (codes "deq")) ∷ (DequeueEmpty, empty_operation)
+    (Enqueue 0, valued_operation (codes "enq")) ∷ (Dequeue 0, valued_operation (codes "deq"))
+    ∷ (DequeueEmpty, empty_operation)
     ∷ (EnqueueFailed 0, valued_operation (codes "not")) ∷ []
 
 -- the kind with its value replaced, if it has one
@@ -59,8 +61,12 @@ kind_with (EnqueueFailed _) v = EnqueueFailed v
 
 -- the operation of a line, from its form and its numbers
 abbrev pub operation_of : OpKind → List ℕ → Operation
-operation_of kind numbers =
-    record { call = slice_index numbers 0; ret = slice_index numbers 1; thread = slice_index numbers 2; kind = kind_with kind (slice_index numbers 3) }
+operation_of kind numbers = record {
+  call = slice_index numbers 0;
+  ret = slice_index numbers 1;
+  thread = slice_index numbers 2;
+  kind = kind_with kind (slice_index numbers 3);
+}
 
 -- the fields are those of an initial value, not of an operation
 abbrev pub is_initial : List (List ℕ) → Bool
@@ -73,7 +79,13 @@ operation_in n fields = if is_initial fields then Err (Line n) else read_by oper
 
 -- the format of a `YES`, which lists operations
 abbrev pub operation_format : Format Operation
-operation_format = record { fields = operation_fields; HasLine = HasOperationLine; most = MAX_CLAIM_LINES; is_counted = false; read = operation_in }
+operation_format = record {
+  fields = operation_fields;
+  HasLine = HasOperationLine;
+  most = MAX_CLAIM_LINES;
+  is_counted = false;
+  read = operation_in;
+}
 
 -- ---- the lines of a `NO`
 
@@ -97,11 +109,18 @@ initial_of _ numbers = Initial (slice_index numbers 0)
 -- the operation or initial value on line n of a `NO`, from its fields
 abbrev pub claim_line_in : ℕ → List (List ℕ) → Result ClaimLine TextFault
 claim_line_in n fields =
-    if is_initial fields then read_by initial_forms initial_of n fields else (read_by operation_forms operation_of n fields >>= λ o. Ok (Op o))
+    if is_initial fields then read_by initial_forms initial_of n fields else
+    (read_by operation_forms operation_of n fields >>= λ o. Ok (Op o))
 
 -- the format of a `NO`, which lists operations and initial values
 abbrev pub claim_line_format : Format ClaimLine
-claim_line_format = record { fields = claim_line_fields; HasLine = HasClaimLine; most = MAX_CLAIM_LINES; is_counted = false; read = claim_line_in }
+claim_line_format = record {
+  fields = claim_line_fields;
+  HasLine = HasClaimLine;
+  most = MAX_CLAIM_LINES;
+  is_counted = false;
+  read = claim_line_in;
+}
 
 -- ---- verdicts
 
@@ -143,7 +162,8 @@ ClaimFault n ending fault (Some kind) bytes = ItemFault claim_line_format n endi
 -- the first fault of a text of a verdict: that of its first line, or of the lines after it
 abbrev pub IsVerdictTextFault : ℕ → Ending → List ℕ → TextFault → Type 0
 IsVerdictTextFault lines ending bytes fault =
-    FirstLineFault (lines + 1) ending fault (front_of bytes) ⊎ AfterFirstLine (ClaimFault (lines + 2) ending fault) bytes
+    FirstLineFault (lines + 1) ending fault (front_of bytes)
+    ⊎ AfterFirstLine (ClaimFault (lines + 2) ending fault) bytes
 
 -- some lines after the first are valid, but there was no room for the last of them
 abbrev pub NoRoomForClaim : Option ViolationKind → List ℕ → Type 0

@@ -68,8 +68,10 @@ valued_event word = a_ticket ∷ a_thread ∷ Word word ∷ a_value ∷ []
 -- the forms of event lines, each with the kind of its events, with 0 as the value
 abbrev pub event_forms : Table What
 event_forms =
-    (CallEnq 0, valued_event (codes "call-enq")) ∷ (RetEnq, plain_event (codes "ret-enq")) ∷ (RetNot, plain_event (codes "ret-not"))
-    ∷ (CallDeq, plain_event (codes "call-deq")) ∷ (RetDeq 0, valued_event (codes "ret-deq")) ∷ (RetEmpty, plain_event (codes "ret-empty")) ∷ []
+    (CallEnq 0, valued_event (codes "call-enq")) ∷ (RetEnq, plain_event (codes "ret-enq"))
+    ∷ (RetNot, plain_event (codes "ret-not"))
+    ∷ (CallDeq, plain_event (codes "call-deq")) ∷ (RetDeq 0, valued_event (codes "ret-deq"))
+    ∷ (RetEmpty, plain_event (codes "ret-empty")) ∷ []
 
 -- the kind with its value replaced, if it has one
 abbrev pub what_with : What → ℕ → What
@@ -79,7 +81,12 @@ what_with what v = what
 
 -- the event of a line, from its form and its numbers
 abbrev pub event_of : What → List ℕ → Event
-event_of what numbers = record { ticket = slice_index numbers 0; thread = slice_index numbers 1; what = what_with what (slice_index numbers 2) }
+event_of what numbers =
+    record {
+      ticket = slice_index numbers 0;
+      thread = slice_index numbers 1;
+      what = what_with what (slice_index numbers 2);
+    }
 
 -- the event on line n, from its fields
 abbrev pub event_in : ℕ → List (List ℕ) → Result Event TextFault
@@ -87,7 +94,8 @@ event_in n fields = read_by event_forms event_of n fields
 
 -- the format of a history, which lists events
 abbrev pub event_format : Format Event
-event_format = record { fields = event_fields; HasLine = HasEventLine; most = MAX_EVENTS; is_counted = true; read = event_in }
+event_format =
+    record { fields = event_fields; HasLine = HasEventLine; most = MAX_EVENTS; is_counted = true; read = event_in }
 
 -- lists of events that have a text
 abbrev pub HasHistoryText : List Event → Type 0

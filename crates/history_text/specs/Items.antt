@@ -8,7 +8,8 @@ use Rattle.text_lines.specs.declared.fault.TextFault.{TextFault}
 use Rattle.text_lines.specs.declared.fault.TextFault.TheVariants.{Line, Limit}
 use Rattle.text_lines.specs.Input.{Ending, EndOfInput, Failure}
 use Rattle.text_lines.specs.Forms.{Table, FieldForm, Number, parse_line}
-use Rattle.text_lines.specs.Lines.{line, spaced, Front, Whole, TooLong, Unfinished, Nothing, front_of, fault_at, fields_of, ◌>>=◌, begins_as_end, end_in}
+use Rattle.text_lines.specs.Lines.{line, spaced, Front, Whole, TooLong, Unfinished, Nothing, front_of, fault_at}
+use Rattle.text_lines.specs.Lines.{fields_of, ◌>>=◌, begins_as_end, end_in}
 use Rattle.text_lines.specs.Lines.{greatest_value}
 
 -- a format of texts that list items
@@ -16,7 +17,7 @@ pub record Format (A : Type 0) : Type 1 where
   pub fields : A → List (List ℕ)  -- the fields of an item's line
   pub HasLine : A → Type 0  -- items that have a line
   pub most : ℕ  -- the maximum number of items
-  pub is_counted : Bool  -- whether a last line counts the items; otherwise the input ends, or a line before counts them
+  pub is_counted : Bool  -- whether a last line counts the items; else the input ends, or a line before counts them
   pub read : ℕ → List (List ℕ) → Result A TextFault  -- the item on line n, from its fields
 
 -- ---- what is written
@@ -55,14 +56,16 @@ abbrev pub read_by : {T A : Type 0} → Table T → (T → List ℕ → A) → �
 read_by table make n fields = parse_line n table fields >>= λ said. Ok (make said.0 said.1)
 
 -- the item on the first line of the input, line n, and the bytes after it
-abbrev pub line_at_front : {A : Type 0} → (ℕ → List (List ℕ) → Result A TextFault) → ℕ → Ending → Front → Result (A × List ℕ) TextFault
+abbrev pub line_at_front : {A : Type 0} → (ℕ → List (List ℕ) → Result A TextFault) → ℕ → Ending → Front
+    → Result (A × List ℕ) TextFault
 line_at_front read n ending (Whole bytes rest) = read n (fields_of bytes) >>= λ said. Ok (said, rest)
 line_at_front read n ending TooLong = Err (Line n)
 line_at_front read n ending Unfinished = Err (fault_at ending)
 line_at_front read n ending Nothing = Err (fault_at ending)
 
 -- the first line of the input, line n, has this fault
-abbrev pub LineFault : {A : Type 0} → (ℕ → List (List ℕ) → Result A TextFault) → ℕ → Ending → TextFault → List ℕ → Type 0
+abbrev pub LineFault : {A : Type 0} → (ℕ → List (List ℕ) → Result A TextFault) → ℕ → Ending → TextFault → List ℕ
+    → Type 0
 LineFault read n ending fault bytes = line_at_front read n ending (front_of bytes) ≡ Err fault
 
 -- the item on line n after k items, or none if it is the last line
@@ -85,7 +88,8 @@ item_at_front format n k ending Unfinished = Err (fault_at ending)
 item_at_front format n k ending Nothing = item_at_nothing format.is_counted ending
 
 -- some items have their lines, from line n on, and the line after them has this fault
-pub record ItemFault {A : Type 0} (format : Format A) (n : ℕ) (ending : Ending) (fault : TextFault) (bytes : List ℕ) : Type 0 where
+pub record ItemFault {A : Type 0} (format : Format A) (n : ℕ) (ending : Ending) (fault : TextFault)
+    (bytes : List ℕ) : Type 0 where
   pub items : List A
   pub rest : List ℕ
   pub right : HaveLines format items
@@ -103,7 +107,8 @@ pub record NoRoom {A : Type 0} (format : Format A) (bytes : List ℕ) : Type 0 w
 -- ---- items that a line before them counts
 
 -- fewer than k items have their lines, from line n on, and the line after them has this fault
-pub record FaultAmong {A : Type 0} (format : Format A) (k n : ℕ) (ending : Ending) (fault : TextFault) (bytes : List ℕ) : Type 0 where
+pub record FaultAmong {A : Type 0} (format : Format A) (k n : ℕ) (ending : Ending) (fault : TextFault)
+    (bytes : List ℕ) : Type 0 where
   pub items : List A
   pub rest : List ℕ
   pub fewer : length items < k

@@ -1,7 +1,9 @@
 -- Texts of histories in which calls may be pending: a history's text, or a pending text, which also counts its
 -- pending calls.
-use Rattle.std.specs.Prelude.{◌≡◌, ◌≢◌, ℕ, ◌+◌, ◌≤◌, ◌&&◌, ◌⊎◌, nat_lt, Bool, true, false, if◌then◌else◌, is_some, IfSome, ⊤}
-use Rattle.std.specs.Prelude.{List, [], ◌∷◌, ◌++◌, length, drop, codes, decimal, Option, Some, None, Ok, Err, slice_index}
+use Rattle.std.specs.Prelude.{◌≡◌, ◌≢◌, ℕ, ◌+◌, ◌≤◌, ◌&&◌, ◌⊎◌, nat_lt, Bool, true, false, if◌then◌else◌, is_some}
+use Rattle.std.specs.Prelude.{IfSome, ⊤}
+use Rattle.std.specs.Prelude.{List, [], ◌∷◌, ◌++◌, length, drop, codes, decimal, Option, Some, None, Ok, Err}
+use Rattle.std.specs.Prelude.{slice_index}
 use Rattle.std.specs.declared.result.Result.{Result}
 use Rattle.std.specs.Str.{bytes_eq}
 use Rattle.event_records.specs.declared.event.Event.{Event}
@@ -9,7 +11,8 @@ use Rattle.event_records.specs.declared.limits.TheConstants.{MAX_EVENTS, MAX_THR
 use Rattle.text_lines.specs.declared.fault.TextFault.{TextFault}
 use Rattle.text_lines.specs.declared.fault.TextFault.TheVariants.{Line, Limit, Cut}
 use Rattle.text_lines.specs.Input.{Ahead, Ending}
-use Rattle.text_lines.specs.Lines.{line, spaced, end_line, Front, Whole, TooLong, Unfinished, Nothing, front_of, fault_at, fields_of, ◌>>=◌}
+use Rattle.text_lines.specs.Lines.{line, spaced, end_line, Front, Whole, TooLong, Unfinished, Nothing, front_of}
+use Rattle.text_lines.specs.Lines.{fault_at, fields_of, ◌>>=◌}
 use Rattle.text_lines.specs.Lines.{begins_as_end, end_in, header_fault, After}
 use Rattle.text_lines.specs.Forms.{Table, FieldForm, Word, Number}
 use Rattle.history_text.specs.declared.version.Version.{Version}
@@ -57,7 +60,8 @@ lines_at_stop calls = if is_some calls then 2 else 1
 -- a text: its first line, the initial values, the events, and the lines that count
 abbrev pub pending_text : PendingText → List ℕ
 pending_text t =
-    line (first_line_of (is_some t.open_calls) t.version) ++ (value_lines t.version t.initial ++ (lines_of event_format t.events
+    line (first_line_of (is_some t.open_calls) t.version)
+    ++ (value_lines t.version t.initial ++ (lines_of event_format t.events
     ++ (stop_line t.open_calls (length t.events) ++ lines_after_stop t.open_calls (length t.events))))
 
 -- the number of lines of a text
@@ -96,7 +100,8 @@ next_event_in n k bytes = if nat_lt k MAX_EVENTS then event_in n (fields_of byte
 -- line n after k events, of a history or of a pending text: an event, or the line at which the events stop
 abbrev pub event_line_in : Bool → ℕ → ℕ → List ℕ → Result EventLine TextFault
 event_line_in false n k bytes =
-    if begins_as_end bytes then (end_in n k (drop 4 bytes) >>= λ _. Ok (Stop None)) else (next_event_in n k bytes >>= λ e. Ok (OneEvent e))
+    if begins_as_end bytes then (end_in n k (drop 4 bytes) >>= λ _. Ok (Stop None)) else
+    (next_event_in n k bytes >>= λ e. Ok (OneEvent e))
 event_line_in true n k bytes =
     if counts_open (fields_of bytes) then (open_in n (fields_of bytes) >>= λ calls. Ok (Stop (Some calls)))
     else (next_event_in n k bytes >>= λ e. Ok (OneEvent e))
@@ -106,55 +111,65 @@ abbrev pub last_line_in : ℕ → ℕ → List ℕ → Result (Unit {0}) TextFau
 last_line_in n k bytes = if begins_as_end bytes then end_in n k (drop 4 bytes) else Err (Line n)
 
 -- the item on a whole line at the front of the input, line n, and the bytes after it
-abbrev pub whole_line_at_front : {A : Type 0} → (List ℕ → Result A TextFault) → ℕ → Ending → Front → Result (A × List ℕ) TextFault
+abbrev pub whole_line_at_front : {A : Type 0} → (List ℕ → Result A TextFault) → ℕ → Ending → Front
+    → Result (A × List ℕ) TextFault
 whole_line_at_front read n ending (Whole bytes rest) = read bytes >>= λ said. Ok (said, rest)
 whole_line_at_front read n ending TooLong = Err (Line n)
 whole_line_at_front read n ending Unfinished = Err (fault_at ending)
 whole_line_at_front read n ending Nothing = Err (fault_at ending)
 
 -- these events have their lines from line n on, and the line after them has this fault
-pub record StopsAfter (is_pending : Bool) (n : ℕ) (ending : Ending) (fault : TextFault) (bytes : List ℕ) (events : List Event) : Type 0 where
+pub record StopsAfter (is_pending : Bool) (n : ℕ) (ending : Ending) (fault : TextFault) (bytes : List ℕ)
+    (events : List Event) : Type 0 where
   pub rest : List ℕ
   pub right : HaveLines event_format events
   pub front : bytes ≡ lines_of event_format events ++ rest
-  pub next : whole_line_at_front (event_line_in is_pending (n + length events) (length events)) (n + length events) ending (front_of rest) ≡ Err fault
+  pub next : whole_line_at_front (event_line_in is_pending (n + length events) (length events))
+      (n + length events) ending (front_of rest) ≡ Err fault
 
 -- these events have their lines from line n on, the next line counts this many pending calls, and the last line has
 -- this fault
-pub record LacksEnd (n : ℕ) (ending : Ending) (fault : TextFault) (bytes : List ℕ) (events : List Event) (calls : ℕ) : Type 0 where
+pub record LacksEnd (n : ℕ) (ending : Ending) (fault : TextFault) (bytes : List ℕ) (events : List Event)
+    (calls : ℕ) : Type 0 where
   pub rest : List ℕ
   pub right : HaveLines event_format events
   pub few_open : calls ≤ MAX_THREADS
   pub front : bytes ≡ lines_of event_format events ++ (stop_line (Some calls) (length events) ++ rest)
-  pub next : whole_line_at_front (last_line_in (n + length events + 1) (length events)) (n + length events + 1) ending (front_of rest) ≡ Err fault
+  pub next : whole_line_at_front (last_line_in (n + length events + 1) (length events)) (n + length events + 1) ending
+      (front_of rest) ≡ Err fault
 
 -- the fault after these events and, if there is one, this count of pending calls
 abbrev pub FaultAfterEvents : Bool → ℕ → Ending → TextFault → List ℕ → List Event → Option ℕ → Type 0
 FaultAfterEvents is_pending n ending fault bytes events None = StopsAfter is_pending n ending fault bytes events
-FaultAfterEvents is_pending n ending fault bytes events (Some calls) = (is_pending ≡ true) × LacksEnd n ending fault bytes events calls
+FaultAfterEvents is_pending n ending fault bytes events (Some calls) = (is_pending ≡ true)
+    × LacksEnd n ending fault bytes events calls
 
 -- the first fault of the lines of events from line n on, or of those after them, unless it is that the input ends
 -- early and this is allowed
 abbrev pub EventsFault : Bool → Bool → ℕ → Ending → TextFault → List ℕ → Type 0
 EventsFault takes_cut is_pending n ending fault bytes =
-    (events : List Event) × (calls : Option ℕ) × FaultAfterEvents is_pending n ending fault bytes events calls × (takes_cut ≡ true → fault ≢ Cut)
+    (events : List Event) × (calls : Option ℕ) × FaultAfterEvents is_pending n ending fault bytes events calls
+    × (takes_cut ≡ true → fault ≢ Cut)
 
 -- the first line is that of no version, of neither a history nor a pending text, and this is its fault
 abbrev pub NoFirstLine : Ending → TextFault → Front → Type 0
-NoFirstLine ending fault front = (is_pending : Bool) (version : Version) → header_fault (first_line_of is_pending version) ending front ≡ Some fault
+NoFirstLine ending fault front = (is_pending : Bool) (version : Version)
+    → header_fault (first_line_of is_pending version) ending front ≡ Some fault
 
 -- the first fault of the lines after the first, from line n on
 abbrev pub FaultAfterFirst : Bool → Bool → Version → ℕ → Ending → TextFault → List ℕ → Type 0
 FaultAfterFirst takes_cut is_pending One n ending fault bytes = EventsFault takes_cut is_pending n ending fault bytes
 FaultAfterFirst takes_cut is_pending Two n ending fault bytes =
-    InitialFault n ending fault bytes ⊎ AfterInitial (λ k. EventsFault takes_cut is_pending (n + 1 + k) ending fault) bytes
+    InitialFault n ending fault bytes
+    ⊎ AfterInitial (λ k. EventsFault takes_cut is_pending (n + 1 + k) ending fault) bytes
 
 -- the first fault of the text: that of its first line, or of the lines after it
 abbrev pub IsPendingTextFault : Bool → ℕ → Ending → List ℕ → TextFault → Type 0
 IsPendingTextFault takes_cut lines ending bytes fault =
     NoFirstLine ending fault (front_of bytes)
     ⊎ ((is_pending : Bool) × (version : Version)
-    × After (line (first_line_of is_pending version)) (FaultAfterFirst takes_cut is_pending version (lines + 2) ending fault) bytes)
+    × After (line (first_line_of is_pending version))
+    (FaultAfterFirst takes_cut is_pending version (lines + 2) ending fault) bytes)
 
 -- ---- texts that are cut off
 
@@ -165,7 +180,8 @@ pub record IsCutText (lines : ℕ) (input : Ahead) (t : PendingText) : Type 0 wh
   pub initial : HaveValueLines t.version t.initial
   pub rest : List ℕ
   pub front : input.bytes ≡ (line (first_line_of is_pending t.version) ++ value_lines t.version t.initial) ++ rest
-  pub cut : FaultAfterEvents is_pending (lines + count_before_events t.version t.initial + 1) input.ending Cut rest t.events t.open_calls
+  pub cut : FaultAfterEvents is_pending
+      (lines + count_before_events t.version t.initial + 1) input.ending Cut rest t.events t.open_calls
 
 -- ---- what a call on a reader returns
 
@@ -176,8 +192,10 @@ IsPendingRead takes_cut lines old new t false = (takes_cut ≡ true) × OfLeft o
 
 -- the first line and some lines after it are valid, but there was no room for the last of them
 abbrev pub NoRoomForPending : List ℕ → Type 0
-NoRoomForPending bytes = (is_pending : Bool) × (version : Version) × After (line (first_line_of is_pending version)) (NoRoomAfterHeader version) bytes
+NoRoomForPending bytes = (is_pending : Bool) × (version : Version)
+    × After (line (first_line_of is_pending version)) (NoRoomAfterHeader version) bytes
 
 -- the first fault of such a text, in what is left of the input
 abbrev pub HasPendingTextFault : Bool → ℕ → Left → TextFault → Type 0
-HasPendingTextFault takes_cut lines left fault = HasFirstFault (IsPendingTextFault takes_cut lines) NoRoomForPending left fault
+HasPendingTextFault takes_cut lines left fault =
+    HasFirstFault (IsPendingTextFault takes_cut lines) NoRoomForPending left fault

@@ -39,7 +39,8 @@ pub record IsOver (ending : Ending) (left : Left) : Type 0 where
 
 -- the first fault of the input that is left; if it is out of memory, a line without fault was there
 abbrev pub HasFirstFault : (Ending → List ℕ → TextFault → Type 0) → (List ℕ → Type 0) → Left → TextFault → Type 0
-HasFirstFault IsFault LacksRoom left fault = OfLeft left (λ a. MemoryOr (LacksRoom a.bytes) (IsFault a.ending a.bytes) fault)
+HasFirstFault IsFault LacksRoom left fault =
+    OfLeft left (λ a. MemoryOr (LacksRoom a.bytes) (IsFault a.ending a.bytes) fault)
 
 -- the first fault of a history's text
 abbrev pub HasTextFault : ℕ → Left → TextFault → Type 0

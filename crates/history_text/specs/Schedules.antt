@@ -14,7 +14,8 @@ use Rattle.history_text.specs.declared.schedule.TheConstants.{MOST_DRAINED}
 use Rattle.text_lines.specs.Input.{Ending}
 use Rattle.text_lines.specs.Lines.{line, spaced, end_line, greatest_value, front_of, header_fault, After}
 use Rattle.text_lines.specs.Forms.{Table, FieldForm, Word, Number}
-use Rattle.history_text.specs.Items.{Format, lines_of, HaveLines, LineFault, ItemFault, NoRoom, a_thread, a_value, read_by}
+use Rattle.history_text.specs.Items.{Format, lines_of, HaveLines, LineFault, ItemFault, NoRoom, a_thread, a_value}
+use Rattle.history_text.specs.Items.{read_by}
 
 -- ---- what is written
 
@@ -85,8 +86,10 @@ draining = Word (codes "drain") ∷ a_thread ∷ Number 0 MOST_DRAINED ∷ []
 -- the forms of step lines, each with its step, with 0 as the thread and as any other number
 abbrev pub step_forms : Table Step
 step_forms =
-    (AskEnq 0, plain_step (codes "ask-enq")) ∷ (AskDeq 0, plain_step (codes "ask-deq")) ∷ (Push 0, plain_step (codes "push"))
-    ∷ (Effect 0, plain_step (codes "effect")) ∷ (Ret 0, plain_step (codes "ret")) ∷ (Close 0, plain_step (codes "close"))
+    (AskEnq 0, plain_step (codes "ask-enq")) ∷ (AskDeq 0, plain_step (codes "ask-deq"))
+    ∷ (Push 0, plain_step (codes "push"))
+    ∷ (Effect 0, plain_step (codes "effect")) ∷ (Ret 0, plain_step (codes "ret"))
+    ∷ (Close 0, plain_step (codes "close"))
     ∷ (Drain 0 0, draining) ∷ (Say 0 Taken, plain_saying (codes "taken")) ∷ (Say 0 Not, plain_saying (codes "not"))
     ∷ (Say 0 Empty, plain_saying (codes "empty")) ∷ (Say 0 (Got 0), valued_saying) ∷ []
 
@@ -134,7 +137,8 @@ setting_in n fields = read_by setting_forms setting_of n fields
 
 -- the format of a schedule, which lists steps
 abbrev pub step_format : Format Step
-step_format = record { fields = step_fields; HasLine = HasStepLine; most = MAX_STEPS; is_counted = true; read = step_in }
+step_format =
+    record { fields = step_fields; HasLine = HasStepLine; most = MAX_STEPS; is_counted = true; read = step_in }
 
 -- the text of a schedule
 abbrev pub schedule_text : Schedule → List ℕ
@@ -154,13 +158,15 @@ pub record HasScheduleText (s : Schedule) : Type 0 where
 
 -- the first two lines are valid, and P holds of the bytes after them
 abbrev pub AfterSetting : (List ℕ → Type 0) → List ℕ → Type 0
-AfterSetting P bytes = (threads : ℕ) × (ring : ℕ) × IsSetting threads ring × After (lines_before_steps threads ring) P bytes
+AfterSetting P bytes = (threads : ℕ) × (ring : ℕ) × IsSetting threads ring
+    × After (lines_before_steps threads ring) P bytes
 
 -- the first fault of a text of a schedule: that of the first line, of the second, or of the line after some steps
 abbrev pub IsScheduleTextFault : ℕ → Ending → List ℕ → TextFault → Type 0
 IsScheduleTextFault lines ending bytes fault =
     (header_fault schedule_header ending (front_of bytes) ≡ Some fault)
-    ⊎ (After (line schedule_header) (LineFault setting_in (lines + 2) ending fault) bytes ⊎ AfterSetting (ItemFault step_format (lines + 3) ending fault) bytes)
+    ⊎ (After (line schedule_header) (LineFault setting_in (lines + 2) ending fault) bytes
+    ⊎ AfterSetting (ItemFault step_format (lines + 3) ending fault) bytes)
 
 -- the first two lines and those of some steps are valid, but there was no room for the last
 abbrev pub NoRoomForSchedule : List ℕ → Type 0

@@ -14,7 +14,8 @@ use Rattle.text_lines.specs.Lines.{line, spaced, greatest_value, Front, front_of
 use Rattle.history_text.specs.declared.version.Version.{Version}
 use Rattle.history_text.specs.declared.version.Version.TheVariants.{One, Two}
 use Rattle.text_lines.specs.Forms.{Table, Word, Number}
-use Rattle.history_text.specs.Items.{Format, HaveLines, lines_of, LineFault, ItemFault, NoRoom, FaultAmong, NoRoomAmong, a_value, read_by}
+use Rattle.history_text.specs.Items.{Format, HaveLines, lines_of, LineFault, ItemFault, NoRoom, FaultAmong}
+use Rattle.history_text.specs.Items.{NoRoomAmong, a_value, read_by}
 use Rattle.history_text.specs.Histories.{header, lines_to_end, event_format, HasHistoryText}
 
 -- the content of a history's text: its version, the initial values, of which version 1 has none, and the events; any
@@ -49,7 +50,14 @@ value_in n fields = if is_blank fields then Err (Line n) else read_by value_form
 
 -- the format of the initial values of version 2
 abbrev pub value_format : Format ℕ
-value_format = record { fields = value_fields; HasLine = λ v. v ≤ greatest_value; most = MAX_INITIAL; is_counted = false; read = value_in }
+value_format =
+    record {
+      fields = value_fields;
+      HasLine = λ v. v ≤ greatest_value;
+      most = MAX_INITIAL;
+      is_counted = false;
+      read = value_in;
+    }
 
 -- the fields of the second line of version 2, which counts the initial values
 abbrev pub count_fields : ℕ → List (List ℕ)
@@ -127,12 +135,14 @@ AfterCount P bytes = (k : ℕ) × (k ≤ MAX_INITIAL) × After (line (spaced (co
 
 -- this line and those of the initial values are valid, and P holds of their number and the bytes after them
 abbrev pub AfterInitial : (ℕ → List ℕ → Type 0) → List ℕ → Type 0
-AfterInitial P bytes = (initial : List ℕ) × HaveLines value_format initial × After (lines_of_initial initial) (P (length initial)) bytes
+AfterInitial P bytes = (initial : List ℕ) × HaveLines value_format initial
+    × After (lines_of_initial initial) (P (length initial)) bytes
 
 -- the first fault of the initial values: line n doesn't count them, or fewer of them come than it counts, and the
 -- line after those has this fault
 abbrev pub InitialFault : ℕ → Ending → TextFault → List ℕ → Type 0
-InitialFault n ending fault bytes = LineFault count_in n ending fault bytes ⊎ AfterCount (λ k. FaultAmong value_format k (n + 1) ending fault) bytes
+InitialFault n ending fault bytes = LineFault count_in n ending fault bytes
+    ⊎ AfterCount (λ k. FaultAmong value_format k (n + 1) ending fault) bytes
 
 -- the first fault of the lines after the first, from line n on
 abbrev pub FaultAfterHeader : Version → ℕ → Ending → TextFault → List ℕ → Type 0
@@ -144,12 +154,14 @@ FaultAfterHeader Two n ending fault bytes =
 abbrev pub IsTextFault : ℕ → Ending → List ℕ → TextFault → Type 0
 IsTextFault lines ending bytes fault =
     NoVersionFault ending fault (front_of bytes)
-    ⊎ ((version : Version) × After (line (header_of version)) (FaultAfterHeader version (lines + 2) ending fault) bytes)
+    ⊎ ((version : Version) × After (line (header_of version))
+    (FaultAfterHeader version (lines + 2) ending fault) bytes)
 
 -- some of the initial values or the events after the first line have their lines, but there was no room for the last
 abbrev pub NoRoomAfterHeader : Version → List ℕ → Type 0
 NoRoomAfterHeader One bytes = NoRoom event_format bytes
-NoRoomAfterHeader Two bytes = AfterCount (NoRoomAmong value_format) bytes ⊎ AfterInitial (λ k. NoRoom event_format) bytes
+NoRoomAfterHeader Two bytes = AfterCount (NoRoomAmong value_format) bytes
+    ⊎ AfterInitial (λ k. NoRoom event_format) bytes
 
 -- the first line and some lines after it are valid, but there was no room for the last of them
 abbrev pub NoRoomForText : List ℕ → Type 0

@@ -38,7 +38,11 @@ enqueue_position lives i = record { gap = enqueue_gap lives i; class = enqueues;
 -- the position of the dequeue of the i-th value
 abbrev pub dequeue_position : List Life → ℕ → Position
 dequeue_position lives i =
-    record { gap = dequeue_gap lives i; class = (if nat_lt (enqueue_gap lives i) (dequeue_gap lives i) then earlier_dequeues else other_dequeues); rank = i }
+    record {
+      gap = dequeue_gap lives i;
+      class = (if nat_lt (enqueue_gap lives i) (dequeue_gap lives i) then earlier_dequeues else other_dequeues);
+      rank = i;
+    }
 
 -- the position of an operation that changes nothing, at this gap
 abbrev pub noop_position : Operation → ℕ → Position
@@ -47,9 +51,11 @@ noop_position o gap = record { gap = gap; class = noop_answers; rank = o.call }
 -- the position of an operation of this kind
 abbrev pub IsPositionFor : Course → List Life → Operation → OpKind → Position → Type 0
 IsPositionFor c lives o (Enqueue v) position =
-    (i : ℕ) × (life : Life) × (slice_get lives i ≡ Some life) × (enqueue_of life ≡ o) × (position ≡ enqueue_position lives i)
+    (i : ℕ) × (life : Life) × (slice_get lives i ≡ Some life) × (enqueue_of life ≡ o)
+    × (position ≡ enqueue_position lives i)
 IsPositionFor c lives o (Dequeue v) position =
-    (i : ℕ) × (life : Life) × (slice_get lives i ≡ Some life) × (dequeue_of life ≡ Some o) × (position ≡ dequeue_position lives i)
+    (i : ℕ) × (life : Life) × (slice_get lives i ≡ Some life) × (dequeue_of life ≡ Some o)
+    × (position ≡ dequeue_position lives i)
 IsPositionFor c lives o DequeueEmpty position = (gap : ℕ) × IsLeastFreeGap c o gap × (position ≡ noop_position o gap)
 IsPositionFor c lives o (EnqueueFailed v) position = position ≡ noop_position o o.call
 
@@ -59,7 +65,8 @@ IsPositionOf c lives o position = IsPositionFor c lives o o.kind position
 
 -- positions compare by gap, then by class, then by rank
 abbrev pub StandsBefore : Position → Position → Type 0
-StandsBefore p q = (p.gap < q.gap) ⊎ ((p.gap ≡ q.gap) × ((p.class < q.class) ⊎ ((p.class ≡ q.class) × (p.rank < q.rank))))
+StandsBefore p q = (p.gap < q.gap)
+    ⊎ ((p.gap ≡ q.gap) × ((p.class < q.class) ⊎ ((p.class ≡ q.class) × (p.rank < q.rank))))
 
 -- all operations in rising order of position
 pub record IsChosenOrder (c : Course) (order : List Operation) : Type 0 where
@@ -74,5 +81,6 @@ pub record IsChosenOrder (c : Course) (order : List Operation) : Type 0 where
 -- first
 abbrev pub AreChosenAndLegal : List ℕ → List Operation → List ℕ → Type 0
 AreChosenAndLegal initial operations places =
-    (order : List Operation) × ArePlacesOf operations places order × IsChosenOrder (course initial operations) (timed order)
+    (order : List Operation) × ArePlacesOf operations places order
+    × IsChosenOrder (course initial operations) (timed order)
     × IsLegalOrder initial operations order

@@ -1,5 +1,6 @@
 -- Bytes as a message shows them.
-use Rattle.std.specs.Prelude.{ℕ, ◌+◌, ◌/◌, ◌%◌, ◌≤◌, ◌++◌, List, [], ◌∷◌, codes, nat_eq, nat_le, nat_lt, ◌&&◌, if◌then◌else◌}
+use Rattle.std.specs.Prelude.{ℕ, ◌+◌, ◌/◌, ◌%◌, ◌≤◌, ◌++◌, List, [], ◌∷◌, codes, nat_eq, nat_le, nat_lt, ◌&&◌}
+use Rattle.std.specs.Prelude.{if◌then◌else◌}
 
 -- a character of printable ASCII
 abbrev pub IsPrintable : ℕ → Type 0

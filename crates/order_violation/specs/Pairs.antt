@@ -21,7 +21,8 @@ pub record IsFirstOvertaking (values candidates : List MatchedValue) (b : Matche
   pub overtaken : MatchedValue
   pub overtaken_among : Contains values overtaken
   pub overtakes : Overtakes b.life overtaken.life
-  pub first : All (λ other. (a : MatchedValue) → Contains values a → Overtakes other.life a.life → dequeue_return b.life ≤ dequeue_return other.life) candidates
+  pub first : All (λ other. (a : MatchedValue) → Contains values a → Overtakes other.life a.life
+      → dequeue_return b.life ≤ dequeue_return other.life) candidates
 
 -- the first-dequeued value of the history that overtakes another
 pub record IsFirstOvertaker (history : Contents) (b : MatchedValue) : Type 0 where
@@ -30,11 +31,14 @@ pub record IsFirstOvertaker (history : Contents) (b : MatchedValue) : Type 0 whe
   pub overtaken : Life
   pub overtaken_is_life : IsLife (course_of history) overtaken
   pub overtakes : Overtakes b.life overtaken
-  pub first : (x a : Life) → IsLife (course_of history) x → IsLife (course_of history) a → Overtakes x a → dequeue_return b.life ≤ dequeue_return x
+  pub first : (x a : Life) → IsLife (course_of history) x → IsLife (course_of history) a → Overtakes x a
+      → dequeue_return b.life ≤ dequeue_return x
 
 -- the first-dequeued candidate that overtakes a value, or none if none does
 abbrev pub FindsFirst : List MatchedValue → List MatchedValue → Option MatchedValue → Type 0
-FindsFirst values candidates found = MatchOption found (All (λ b. NonePasses (Overtakes b.life) values) candidates) (λ b. IsFirstOvertaking values candidates b)
+FindsFirst values candidates found =
+    MatchOption found (All (λ b. NonePasses (Overtakes b.life) values) candidates)
+    (λ b. IsFirstOvertaking values candidates b)
 
 -- the first-dequeued value that overtakes another, or none if no two are an order violation
 abbrev pub IsFirstFound : Contents → Option MatchedValue → Type 0

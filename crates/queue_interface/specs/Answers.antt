@@ -7,7 +7,8 @@ use Rattle.event_records.specs.declared.kind.Kind.TheVariants.{Enq, Deq}
 use Rattle.event_records.specs.declared.kind.Answer.{Answer}
 use Rattle.event_records.specs.declared.kind.Answer.TheVariants.{Taken, Not, Got, Empty}
 use Rattle.queue_interface.specs.declared.script.Entry.{Entry}
-use Rattle.queue_interface.specs.declared.script.Entry.TheVariants.{Taken as SaysTaken, NotTaken as SaysNotTaken, Got as SaysGot, Empty as SaysEmpty}
+use Rattle.queue_interface.specs.declared.script.Entry.TheVariants.{Taken as SaysTaken, NotTaken as SaysNotTaken}
+use Rattle.queue_interface.specs.declared.script.Entry.TheVariants.{Got as SaysGot, Empty as SaysEmpty}
 
 -- an answer of the question's kind
 abbrev pub IsOfKind : Kind → Answer → Type 0

@@ -1,5 +1,6 @@
 -- Lists that break the order at each 4th of the calls that they count.
-use Rattle.std.specs.Prelude.{◌≡◌, ◌≢◌, ℕ, ◌+◌, ◌%◌, ◌^◌, List, [], ◌∷◌, ◌++◌, Option, None, if◌then◌else◌, Bool, true, IfNone, slice_get}
+use Rattle.std.specs.Prelude.{◌≡◌, ◌≢◌, ℕ, ◌+◌, ◌%◌, ◌^◌, List, [], ◌∷◌, ◌++◌, Option, None, if◌then◌else◌, Bool, true}
+use Rattle.std.specs.Prelude.{IfNone, slice_get}
 use Rattle.std.specs.Option.{option_to_list}
 
 -- the next number of a count of 64 bits

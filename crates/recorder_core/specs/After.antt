@@ -1,5 +1,6 @@
 -- The state of a machine after a schedule.
-use Rattle.std.specs.Prelude.{◌≡◌, ℕ, ◌<◌, Bool, true, false, nat_lt, if◌then◌else◌, List, length, take, drop, Option, None, Some, Result, Ok}
+use Rattle.std.specs.Prelude.{◌≡◌, ℕ, ◌<◌, Bool, true, false, nat_lt, if◌then◌else◌, List, length, take, drop, Option}
+use Rattle.std.specs.Prelude.{None, Some, Result, Ok}
 use Rattle.std.specs.Prelude.{Err, slice_get}
 use Rattle.std.specs.Option.{option_map}
 use Rattle.recorder_core.specs.declared.step.Step.{Step}
@@ -7,7 +8,8 @@ use Rattle.recorder_core.specs.declared.pending.Pending.{Pending}
 use Rattle.recorder_core.specs.declared.step.StepRefused.{StepRefused}
 use Rattle.recorder_core.specs.declared.step.StepRefused.TheVariants.{Memory}
 use Rattle.recorder_core.specs.Setting.{Setting}
-use Rattle.recorder_core.specs.Schedule.{Attempt, accepted, asks, all_asks, answers, returns, pushes, drained, tickets, events, request}
+use Rattle.recorder_core.specs.Schedule.{Attempt, accepted, asks, all_asks, answers, returns, pushes, drained, tickets}
+use Rattle.recorder_core.specs.Schedule.{events, request}
 use Rattle.recorder_core.specs.Schedule.{answered, is_closed, queue}
 use Rattle.recorder_core.specs.View.{ThreadView, MachineView}
 

@@ -1,7 +1,8 @@
 -- The printed names of refusals.
 use Rattle.std.specs.Prelude.{ℕ, List, codes}
 use Rattle.recorder_core.specs.declared.step.StepRefused.{StepRefused}
-use Rattle.recorder_core.specs.declared.step.StepRefused.TheVariants.{NoThread, Closed, Held, NothingHeld, RingFull, Pending, NotPending, NoAnswer}
+use Rattle.recorder_core.specs.declared.step.StepRefused.TheVariants.{NoThread, Closed, Held, NothingHeld, RingFull}
+use Rattle.recorder_core.specs.declared.step.StepRefused.TheVariants.{Pending, NotPending, NoAnswer}
 use Rattle.recorder_core.specs.declared.step.StepRefused.TheVariants.{AnswerTaken, WrongAnswer, Limit, Memory}
 
 -- the name of a refusal

@@ -1,5 +1,6 @@
 -- Recorded lists, schedules that collect them, and the histories to which they merge.
-use Rattle.std.specs.Prelude.{◌≡◌, ℕ, ◌+◌, ◌*◌, ◌≤◌, Bool, true, false, not, IsTrue, List, [], ◌∷◌, ◌++◌, length, map, All, filter_map, flat_map}
+use Rattle.std.specs.Prelude.{◌≡◌, ℕ, ◌+◌, ◌*◌, ◌≤◌, Bool, true, false, not, IsTrue, List, [], ◌∷◌, ◌++◌, length, map}
+use Rattle.std.specs.Prelude.{All, filter_map, flat_map}
 use Rattle.std.specs.Prelude.{slice_get, Option, Some, None, IsPermutation}
 use Rattle.std.specs.List.{range_with_len, list_all}
 use Rattle.std.specs.Option.{option_map}
@@ -46,7 +47,8 @@ IsHonest setting schedule = IsTrue (list_all (λ step. not (is_say step)) (accep
 pub record IsListOf (t : ℕ) (events : List Event) : Type 0 where
   pub own : All (λ event. event.thread ≡ t) events
   pub alternates : Alternates events
-  pub names : (n value : ℕ) (call : Event) → slice_get events (2 * n) ≡ Some call → call.what ≡ CallEnq value → value ≡ value_name t n
+  pub names : (n value : ℕ) (call : Event) → slice_get events (2 * n) ≡ Some call → call.what ≡ CallEnq value
+      → value ≡ value_name t n
   pub not_too_long : length events ≤ 2 * MAX_THREAD_OPERATIONS
 
 -- one list for each of 1 to 64 threads, of no more operations together than a machine may be asked, whose tickets
@@ -55,7 +57,8 @@ pub record AreRecorded (lists : List (List Event)) : Type 0 where
   pub some : 1 ≤ length lists
   pub not_too_many : length lists ≤ MAX_THREADS
   pub each : (t : ℕ) (events : List Event) → slice_get lists t ≡ Some events → IsListOf t events
-  pub tickets : let all = flat_map (λ list. list) lists in IsPermutation (map (λ event. event.ticket) all) (range_with_len 0 (length all))
+  pub tickets : let all = flat_map (λ list. list) lists in
+      IsPermutation (map (λ event. event.ticket) all) (range_with_len 0 (length all))
   pub not_too_long : length (flat_map (λ list. list) lists) ≤ 2 * MAX_OPERATIONS
 
 -- one thread for each list, rings of this capacity, and a queue that holds these values first
@@ -105,5 +108,6 @@ kind_told ask_for.Dequeue _ = DequeueEmpty
 abbrev pub effect_kinds : Setting → List Step → List OpKind
 effect_kinds setting [] = []
 effect_kinds setting (Effect t ∷ before) =
-    with_last (effect_kinds setting before) (option_map (λ asked. kind_told asked (effect_answer setting t before)) (request t before))
+    with_last (effect_kinds setting before)
+    (option_map (λ asked. kind_told asked (effect_answer setting t before)) (request t before))
 effect_kinds setting (_ ∷ before) = effect_kinds setting before

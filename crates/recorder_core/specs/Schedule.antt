@@ -1,7 +1,8 @@
 -- The meaning of a schedule: which of its steps are accepted, and what each accepted step gives. In every list of
 -- attempts or steps the latest comes first, so the rest of a list is what came before. The queue, answers and events
 -- of threads follow from the accepted steps by counts and filters: there is no ring, no held event and no state.
-use Rattle.std.specs.Prelude.{ℕ, ◌+◌, ◌-◌, min, Bool, true, false, not, ◌||◌, ◌==◌, nat_lt, nat_le, if◌then◌else◌, List, [], ◌∷◌, ◌++◌, length}
+use Rattle.std.specs.Prelude.{ℕ, ◌+◌, ◌-◌, min, Bool, true, false, not, ◌||◌, ◌==◌, nat_lt, nat_le, if◌then◌else◌}
+use Rattle.std.specs.Prelude.{List, [], ◌∷◌, ◌++◌, length}
 use Rattle.std.specs.Prelude.{filter, find, drop, Option, None, Some, Result, Ok, Err}
 use Rattle.std.specs.List.{list_any}
 use Rattle.std.specs.Option.{option_map, option_map_or, is_none}
@@ -19,7 +20,8 @@ use Rattle.recorder_core.specs.declared.step.Done.{Done}
 use Rattle.recorder_core.specs.declared.step.Done.TheVariants.{Ticket, Pushed, Answered, Drained, Closed as CloseDone}
 use Rattle.recorder_core.specs.Setting.{Setting}
 use Rattle.recorder_core.specs.declared.step.StepRefused.{StepRefused}
-use Rattle.recorder_core.specs.declared.step.StepRefused.TheVariants.{NoThread, Closed, Held, NothingHeld, RingFull, Pending, NotPending, NoAnswer}
+use Rattle.recorder_core.specs.declared.step.StepRefused.TheVariants.{NoThread, Closed, Held, NothingHeld, RingFull}
+use Rattle.recorder_core.specs.declared.step.StepRefused.TheVariants.{Pending, NotPending, NoAnswer}
 use Rattle.recorder_core.specs.declared.step.StepRefused.TheVariants.{AnswerTaken, WrongAnswer, Limit, Memory}
 
 -- a step that is tried, and whether memory runs out for it; only a push, an effect and a drain take memory
@@ -142,12 +144,14 @@ queue setting (_ ∷ before) = queue setting before
 
 -- the answer of an effect of t: that of the queue after the effects before
 abbrev pub effect_answer : Setting → ℕ → List Step → Answer
-effect_answer setting t before = option_map_or (λ asked. queue_answer asked (queue setting before)) (request t before) Empty
+effect_answer setting t before =
+    option_map_or (λ asked. queue_answer asked (queue setting before)) (request t before) Empty
 
 -- the last answer to t
 abbrev pub answered : Setting → ℕ → List Step → Option Answer
 answered setting t [] = None
-answered setting t (Effect u ∷ before) = if u == t then Some (effect_answer setting t before) else answered setting t before
+answered setting t (Effect u ∷ before) =
+    if u == t then Some (effect_answer setting t before) else answered setting t before
 answered setting t (Say u answer ∷ before) = if u == t then Some answer else answered setting t before
 answered setting t (_ ∷ before) = answered setting t before
 
@@ -156,12 +160,17 @@ answered setting t (_ ∷ before) = answered setting t before
 -- the event that a step gives thread t, if it does, with the next ticket
 abbrev pub event_of : Setting → ℕ → Step → List Step → Option Event
 event_of setting t (AskEnq u) before =
-    if u == t then Some (record { ticket = tickets before; thread = t; what = CallEnq (value_name t (asks t before)) }) else None
+    if u == t then Some (record {
+      ticket = tickets before;
+      thread = t;
+      what = CallEnq (value_name t (asks t before));
+    }) else None
 event_of setting t (AskDeq u) before =
     if u == t then Some (record { ticket = tickets before; thread = t; what = CallDeq }) else None
 event_of setting t (Ret u) before =
     if u == t
-    then option_map (λ answer. record { ticket = tickets before; thread = t; what = return_what answer }) (answered setting t before)
+    then option_map (λ answer. record { ticket = tickets before; thread = t; what = return_what answer })
+    (answered setting t before)
     else None
 event_of setting t _ before = None
 
@@ -209,15 +218,19 @@ is_told_wrong _ asked = false
 abbrev pub meets : Setting → List Step → Attempt → StepRefused → Bool
 meets setting before attempt NoThread = nat_le setting.threads (thread_of attempt.step)
 meets setting before attempt Closed = is_closed (thread_of attempt.step) before
-meets setting before attempt Held = let t = thread_of attempt.step in nat_lt (pushes t before) (asks t before + returns t before)
-meets setting before attempt NothingHeld = let t = thread_of attempt.step in nat_le (asks t before + returns t before) (pushes t before)
+meets setting before attempt Held = let t = thread_of attempt.step in
+    nat_lt (pushes t before) (asks t before + returns t before)
+meets setting before attempt NothingHeld = let t = thread_of attempt.step in
+    nat_le (asks t before + returns t before) (pushes t before)
 meets setting before attempt RingFull = nat_le setting.ring (in_ring (thread_of attempt.step) before)
 meets setting before attempt Pending = let t = thread_of attempt.step in nat_lt (returns t before) (asks t before)
 meets setting before attempt NotPending = let t = thread_of attempt.step in nat_le (asks t before) (returns t before)
 meets setting before attempt NoAnswer = let t = thread_of attempt.step in nat_le (answers t before) (returns t before)
-meets setting before attempt AnswerTaken = let t = thread_of attempt.step in nat_lt (returns t before) (answers t before)
+meets setting before attempt AnswerTaken = let t = thread_of attempt.step in
+    nat_lt (returns t before) (answers t before)
 meets setting before attempt WrongAnswer = is_told_wrong attempt.step (request (thread_of attempt.step) before)
-meets setting before attempt Limit = nat_le MAX_THREAD_OPERATIONS (asks (thread_of attempt.step) before) || nat_le MAX_OPERATIONS (all_asks before)
+meets setting before attempt Limit =
+    nat_le MAX_THREAD_OPERATIONS (asks (thread_of attempt.step) before) || nat_le MAX_OPERATIONS (all_asks before)
 meets setting before attempt Memory = attempt.starved
 
 -- the refusals that a step can meet, in the order in which they are checked

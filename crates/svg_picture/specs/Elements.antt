@@ -1,6 +1,7 @@
 -- The elements of a picture.
 use Rattle.std.specs.Prelude.{ℕ, ◌+◌, ◌*◌, List, [], ◌∷◌, length, codes}
-use Rattle.svg_picture.specs.Markup.{Content, Nothing, Words, Element, Then, Style, Pattern, Window, Text, Rect, Line, group}
+use Rattle.svg_picture.specs.Markup.{Content, Nothing, Words, Element, Then, Style, Pattern, Window, Text, Rect, Line}
+use Rattle.svg_picture.specs.Markup.{group}
 use Rattle.svg_picture.specs.Layout.{parts}
 use Rattle.svg_picture.specs.declared.words.TheConstants.{LIGHT, DARK}
 
@@ -14,7 +15,8 @@ rect class round x y wide high = Element (Rect x y wide high round class) (Words
 
 -- a rectangle of a class without its lower edge: the edge is below a window that has room for the other edges
 unfoldable pub open_rect : List ℕ → ℕ → ℕ → ℕ → ℕ → ℕ → Content
-open_rect class round x y wide high = Element (Window (x + wide + 6) (y + high)) (rect class round x y wide (high + 20))
+open_rect class round x y wide high =
+    Element (Window (x + wide + 6) (y + high)) (rect class round x y wide (high + 20))
 
 -- a straight line of a class
 unfoldable pub stroke : List ℕ → ℕ → ℕ → ℕ → ℕ → Content
@@ -37,7 +39,8 @@ lines_at char class y text = lines_from char class y (parts text)
 -- a sample of a bar with its word and its meaning
 unfoldable pub sample : ℕ → ℕ → List ℕ → ℕ → List ℕ → Content
 sample x y class round meaning =
-    group (rect class round x y 47 18 ∷ text_at 7 (codes "label") (x + 6) (y + 13) class ∷ text_at 7 (codes "dim") (x + 53) (y + 13) meaning ∷ [])
+    group (rect class round x y 47 18 ∷ text_at 7 (codes "label") (x + 6) (y + 13) class
+    ∷ text_at 7 (codes "dim") (x + 53) (y + 13) meaning ∷ [])
 
 -- the four samples
 unfoldable pub samples : ℕ → Content

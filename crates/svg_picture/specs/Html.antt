@@ -1,6 +1,7 @@
 -- A picture as a page for a browser: the picture, the operations of its history, and fixed pieces around both, with a
 -- script.
-use Rattle.std.specs.Prelude.{ℕ, Bool, true, false, if◌then◌else◌, nat_le, Option, List, [], ◌∷◌, ◌++◌, length, codes, decimal}
+use Rattle.std.specs.Prelude.{ℕ, Bool, true, false, if◌then◌else◌, nat_le, Option, List, [], ◌∷◌, ◌++◌, length, codes}
+use Rattle.std.specs.Prelude.{decimal}
 use Rattle.std.specs.List.{concat, flat_map}
 use Rattle.text_lines.specs.Lines.{line}
 use Rattle.history_merge.specs.declared.operation.Operation.{Operation}
@@ -42,9 +43,11 @@ operation_line added_from o = times_words o ++ (told true o.kind ++ line (pendin
 -- the operations of a history, one to a line, if they are few enough to be listed
 abbrev pub operation_lines : HistoryView → Option ℕ → List ℕ
 operation_lines history added_from =
-    if nat_le (length (operations_of history.events)) MOST_LISTED then flat_map (operation_line added_from) (operations_of history.events) else []
+    if nat_le (length (operations_of history.events)) MOST_LISTED then flat_map (operation_line added_from)
+    (operations_of history.events) else []
 
 -- the page of a history's scene: the picture, and the operations, which the picture may leave out
 unfoldable pub html_picture : HistoryView → SceneView → List ℕ
 html_picture history scene =
-    page_head ++ (text_of (page_content (page_of scene)) ++ (page_middle ++ (operation_lines history scene.added_from ++ page_foot)))
+    page_head ++ (text_of (page_content (page_of scene))
+    ++ (page_middle ++ (operation_lines history scene.added_from ++ page_foot)))

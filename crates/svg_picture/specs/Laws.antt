@@ -75,7 +75,8 @@ PicturesAreWellFormed = (scene : SceneView) → IsDocument (svg_picture scene)
 -- a row ends at or above the upper edge of those below it
 abbrev pub RowsAreApart : Type 0
 RowsAreApart =
-    (page : Page) (other row : Row) → Contains page.scene.rows other → stands_above other row ≡ true → row_y page other + 20 ≤ row_y page row
+    (page : Page) (other row : Row) → Contains page.scene.rows other → stands_above other row ≡ true
+    → row_y page other + 20 ≤ row_y page row
 
 -- a bar ends above another if and only if its operation precedes the other, whose call was not added: so bars share a
 -- height if and only if their operations overlap
@@ -83,7 +84,8 @@ abbrev pub BarsOverlapInTime : Type 0
 BarsOverlapInTime =
     (history : HistoryView) (claimed : Claimed) (drawn : List Operation) (added_from : Option ℕ) (x y : Operation)
     → Contains (operations_of history.events) x → Contains drawn x → is_added added_from y.call ≡ false
-    → let page = page_of (scene_of history claimed drawn added_from) in Precedes x y ↔ (bar_end page x < call_y page y.call)
+    → let page = page_of (scene_of history claimed drawn added_from) in Precedes x y
+    ↔ (bar_end page x < call_y page y.call)
 
 -- ---- lanes
 

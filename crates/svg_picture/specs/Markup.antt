@@ -72,24 +72,28 @@ tag_name (Line x1 y1 x2 y2 class) = codes "line"
 -- the attributes of an element
 abbrev pub tag_attributes : Tag → List Named
 tag_attributes (Svg width height view_box) =
-    words (codes "xmlns") (codes "http://www.w3.org/2000/svg") ∷ words (codes "version") (codes "1.1") ∷ number (codes "width") width
+    words (codes "xmlns") (codes "http://www.w3.org/2000/svg") ∷ words (codes "version") (codes "1.1")
+    ∷ number (codes "width") width
     ∷ number (codes "height") height ∷ words (codes "viewBox") view_box ∷ words (codes "role") (codes "img") ∷ []
 tag_attributes Title = []
 tag_attributes Desc = []
 tag_attributes Style = []
 tag_attributes Defs = []
 tag_attributes (Pattern id y width height) =
-    words (codes "id") id ∷ number (codes "x") 0 ∷ number (codes "y") y ∷ number (codes "width") width ∷ number (codes "height") height
+    words (codes "id") id ∷ number (codes "x") 0 ∷ number (codes "y") y ∷ number (codes "width") width
+    ∷ number (codes "height") height
     ∷ words (codes "patternUnits") (codes "userSpaceOnUse") ∷ []
 tag_attributes (Group class) = words (codes "class") class ∷ []
 tag_attributes (Window width height) = number (codes "width") width ∷ number (codes "height") height ∷ []
 tag_attributes (Text x y width class) =
     number (codes "x") x ∷ number (codes "y") y ∷ number (codes "textLength") width ∷ words (codes "class") class ∷ []
 tag_attributes (Rect x y width height round class) =
-    number (codes "x") x ∷ number (codes "y") y ∷ number (codes "width") width ∷ number (codes "height") height ∷ number (codes "rx") round
+    number (codes "x") x ∷ number (codes "y") y ∷ number (codes "width") width ∷ number (codes "height") height
+    ∷ number (codes "rx") round
     ∷ words (codes "class") class ∷ []
 tag_attributes (Line x1 y1 x2 y2 class) =
-    number (codes "x1") x1 ∷ number (codes "y1") y1 ∷ number (codes "x2") x2 ∷ number (codes "y2") y2 ∷ words (codes "class") class ∷ []
+    number (codes "x1") x1 ∷ number (codes "y1") y1 ∷ number (codes "x2") x2 ∷ number (codes "y2") y2
+    ∷ words (codes "class") class ∷ []
 
 -- ---- as text
 
@@ -109,7 +113,8 @@ end_tag name = codes "</" ++ (name ++ codes ">\n")
 abbrev pub text_of : Content → List ℕ
 text_of Nothing = []
 text_of (Words words) = plain_words words
-text_of (Element tag content) = start_tag (tag_name tag) (tag_attributes tag) ++ (text_of content ++ end_tag (tag_name tag))
+text_of (Element tag content) =
+    start_tag (tag_name tag) (tag_attributes tag) ++ (text_of content ++ end_tag (tag_name tag))
 text_of (Then first second) = text_of first ++ text_of second
 
 -- the declaration of a document

@@ -11,7 +11,8 @@ use Rattle.drawing.specs.Claim.{count_of_lines, shown_by}
 use Rattle.drawing.specs.declared.bands.Band.{Band}
 use Rattle.drawing.specs.declared.bands.Head.{Head as BandHead}
 use Rattle.drawing.specs.declared.bands.Head.TheVariants as band_head
-use Rattle.drawing.specs.Layout.{digits, kind_word, told, label, numbered, initial_label, label_width, place_in, place_of}
+use Rattle.drawing.specs.Layout.{digits, kind_word, told, label, numbered, initial_label, label_width, place_in}
+use Rattle.drawing.specs.Layout.{place_of}
 use Rattle.drawing.specs.Bands.{form_words, head_text}
 use Rattle.drawing.specs.Captions.{headline, caption}
 use Rattle.drawing.specs.Drawn.{is_away}
@@ -21,11 +22,14 @@ use Rattle.drawing.specs.declared.scene.Row.{Row}
 use Rattle.drawing.specs.declared.scene.Row.TheVariants.{Head, Initial, Ticket, Effect}
 use Rattle.drawing.specs.Signs.{signs_of, meaning}
 use Rattle.drawing.specs.declared.signs.Sign.{Sign}
-use Rattle.drawing.specs.declared.signs.Sign.TheVariants.{First, InOrder, OfOperations, OfValues, Present, Absent, Away, Pending}
+use Rattle.drawing.specs.declared.signs.Sign.TheVariants.{First, InOrder, OfOperations, OfValues, Present, Absent}
+use Rattle.drawing.specs.declared.signs.Sign.TheVariants.{Away, Pending}
 use Rattle.svg_picture.specs.declared.bars.Bar.{Bar}
 use Rattle.svg_picture.specs.declared.canvas.Measures.{Measures}
-use Rattle.svg_picture.specs.Markup.{Content, Nothing, Words, Element, Svg, Title, Desc, Defs, Pattern, Group, each, group, document}
-use Rattle.svg_picture.specs.Layout.{Page, shown, left, number_x, bar_width, thread_x, band_x, width, legend_y, top, row_y, call_y, ret_y, bar_end, bottom, height}
+use Rattle.svg_picture.specs.Markup.{Content, Nothing, Words, Element, Svg, Title, Desc, Defs, Pattern, Group, each}
+use Rattle.svg_picture.specs.Markup.{group, document}
+use Rattle.svg_picture.specs.Layout.{Page, shown, left, number_x, bar_width, thread_x, band_x, width, legend_y, top}
+use Rattle.svg_picture.specs.Layout.{row_y, call_y, ret_y, bar_end, bottom, height}
 use Rattle.svg_picture.specs.Layout.{line_count, parts, longest}
 use Rattle.svg_picture.specs.declared.words.TheConstants.{READING}
 use Rattle.svg_picture.specs.Elements.{text_at, rect, open_rect, stroke, lines_at, samples, hatch, style_element}
@@ -68,12 +72,14 @@ tickets_words true o = concat (codes ", ticket " ∷ decimal o.call ∷ codes ",
 -- the title of a bar: its thread, its kind and value, its tickets, and its number
 unfoldable pub bar_words : Bool → Operation → Option ℕ → List ℕ
 bar_words pending o place =
-    concat (codes "thread " ∷ decimal o.thread ∷ codes ": " ∷ told true o.kind ∷ tickets_words pending o ∷ number_words place ∷ [])
+    concat (codes "thread " ∷ decimal o.thread ∷ codes ": " ∷ told true o.kind ∷ tickets_words pending o
+    ∷ number_words place ∷ [])
 
 -- a number in a pill
 unfoldable pub pill : ℕ → ℕ → ℕ → Content
 pill x y n =
-    group (rect (codes "pill") 8 x y (10 + 7 * digits n) 16 ∷ text_at 7 (codes "pick") (x + 5) (y + 12) (decimal n) ∷ [])
+    group (rect (codes "pill") 8 x y (10 + 7 * digits n) 16 ∷ text_at 7 (codes "pick") (x + 5) (y + 12) (decimal n)
+    ∷ [])
 
 -- the number of a place in a `NO`, to the right of the label of a bar whose lane begins at x
 unfoldable pub bar_number : Measures → ℕ → ℕ → Option ℕ → Content
@@ -109,7 +115,8 @@ unfoldable pub bar : Page → Operation → Content
 bar page o =
     let claimed = page.scene.claimed in
     let place = place_of claimed (Ticket o.call) in
-    marked_bar page.measures (mark claimed (is_away claimed o) place) (bar_words (is_pending page.scene.added_from o) o place) (label o.kind) (bar_of page o)
+    marked_bar page.measures (mark claimed (is_away claimed o) place)
+    (bar_words (is_pending page.scene.added_from o) o place) (label o.kind) (bar_of page o)
 
 -- the bars of the operations
 unfoldable pub bars : Page → Content
@@ -147,8 +154,10 @@ unfoldable pub formed_band : Page → List ℕ → ℕ → ℕ → Band → Cont
 formed_band page [] x y band = Nothing
 formed_band page (b ∷ bytes) x y band =
     let class = b ∷ bytes in
-    group (guide page.measures class (x + 28) (first_y page band) band.first ∷ guide page.measures class (x + 28) (last_y page band) band.last
-    ∷ stroke (codes "lead") x y x (first_y page band) ∷ rect class 0 x (first_y page band) 28 (last_y page band - first_y page band) ∷ [])
+    group (guide page.measures class (x + 28) (first_y page band) band.first
+    ∷ guide page.measures class (x + 28) (last_y page band) band.last
+    ∷ stroke (codes "lead") x y x (first_y page band)
+    ∷ rect class 0 x (first_y page band) 28 (last_y page band - first_y page band) ∷ [])
 
 -- the height of a head: each is above the next, so that it has the room to its right, and all are above the names of
 -- the lanes
@@ -175,7 +184,17 @@ initial_words v place = concat (codes "init " ∷ decimal v ∷ codes ", in the 
 unfoldable pub placed_initial : Page → ℕ → Row → ℕ → Content
 placed_initial page y r v =
     let place = place_in (shown_by page.scene.claimed) r in
-    let b : Bar = record { x = left page.measures; y = y + 2; height = 16; base = y + 14; kind = kind.Enqueue v; place = place; is_pending = false } in
+    let b : Bar =
+    record {
+      x = left page.measures;
+      y = y + 2;
+      height = 16;
+      base = y
+          + 14;
+      kind = kind.Enqueue v;
+      place = place;
+      is_pending = false;
+    } in
     marked_bar page.measures (mark page.scene.claimed false place) (initial_words v place) (initial_label v) b
 
 -- ---- rows
@@ -184,7 +203,8 @@ placed_initial page y r v =
 unfoldable pub way_at : Measures → ℕ → List ℕ → Content
 way_at m y [] = Nothing
 way_at m y (b ∷ bytes) =
-    group (text_at 7 (codes "name") (shown m) (y + 4) (b ∷ bytes) ∷ stroke (codes "time") (shown m + 28) y (left m) y ∷ [])
+    group (text_at 7 (codes "name") (shown m) (y + 4) (b ∷ bytes) ∷ stroke (codes "time") (shown m + 28) y (left m) y
+    ∷ [])
 
 -- words, right-aligned in the column of tickets; nothing without words
 unfoldable pub in_tickets : Measures → ℕ → List ℕ → Content
@@ -195,7 +215,8 @@ in_tickets m y (b ∷ bytes) = text_at 7 (codes "dim") (6 + 7 * (m.ticket - leng
 unfoldable pub effect : Page → ℕ → Operation → ℕ → Content
 effect page y o number =
     group (text_at 7 (codes "label") (shown page.measures + 7 * (page.measures.number - digits number)) (y + 14)
-    (numbered 0 (decimal number) (label o.kind)) ∷ pill (thread_x page o.thread + number_x page.measures) (y + 2) number ∷ [])
+    (numbered 0 (decimal number) (label o.kind))
+    ∷ pill (thread_x page o.thread + number_x page.measures) (y + 2) number ∷ [])
 
 -- the distance of the word for a row's value from the upper edge of the row: a call is at the lower edge
 abbrev pub way_y : Row → ℕ
@@ -276,14 +297,16 @@ signs page = each (sign_at page.measures) (enumerate_from 0 (signs_of page.scene
 -- the words above the lanes: the headline, the caption, and the legend
 unfoldable pub heading : Page → Content
 heading page =
-    group (text_at 9 (codes "head") 6 26 (headline page.scene.claimed) ∷ lines_at 8 (codes "say") 46 (caption page.scene.added_from page.scene.claimed)
+    group (text_at 9 (codes "head") 6 26 (headline page.scene.claimed)
+    ∷ lines_at 8 (codes "say") 46 (caption page.scene.added_from page.scene.claimed)
     ∷ samples (legend_y page.measures) ∷ lines_at 7 (codes "dim") (legend_y page.measures + 35) READING.now
     ∷ signs page ∷ [])
 
 -- the words for those who can't see the picture, and its style
 unfoldable pub about : SceneView → Content
 about scene =
-    group (Element Title (Words (headline scene.claimed)) ∷ Element Desc (Words (caption scene.added_from scene.claimed))
+    group (Element Title (Words (headline scene.claimed))
+    ∷ Element Desc (Words (caption scene.added_from scene.claimed))
     ∷ style_element ∷ [])
 
 -- the units of the whole picture

@@ -1,7 +1,8 @@
 -- The names of faults of texts as they are printed, and out of memory apart from the rest.
 use Rattle.std.specs.Prelude.{ℕ, List, codes, Option, Some, None}
 use Rattle.text_lines.specs.declared.fault.TextFault.{TextFault}
-use Rattle.text_lines.specs.declared.fault.TextFault.TheVariants.{Read, Header, Line, Number, Limit, Count, Cut, Trailing, Memory}
+use Rattle.text_lines.specs.declared.fault.TextFault.TheVariants.{Read, Header, Line, Number, Limit, Count, Cut}
+use Rattle.text_lines.specs.declared.fault.TextFault.TheVariants.{Trailing, Memory}
 
 -- the name of a fault
 abbrev pub name_of : TextFault → List ℕ

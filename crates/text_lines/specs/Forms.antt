@@ -1,5 +1,6 @@
 -- Lines parsed by tables of their forms.
-use Rattle.std.specs.Prelude.{ℕ, ◌≤◌, ◌&&◌, nat_le, Bool, true, false, if◌then◌else◌, List, [], ◌∷◌, length, map, decimal, Option, Some, None, Ok, Err}
+use Rattle.std.specs.Prelude.{ℕ, ◌≤◌, ◌&&◌, nat_le, Bool, true, false, if◌then◌else◌, List, [], ◌∷◌, length, map}
+use Rattle.std.specs.Prelude.{decimal, Option, Some, None, Ok, Err}
 use Rattle.std.specs.declared.result.Result.{Result}
 use Rattle.std.specs.Borrow.{Bor}
 use Rattle.std.specs.List.{list_all}
@@ -44,7 +45,8 @@ numbers_in n _ _ = Ok []
 abbrev pub parse_line : {T : Type 0} → ℕ → Table T → List (List ℕ) → Result (T × List ℕ) TextFault
 parse_line n [] fields = Err (Line n)
 parse_line n (row ∷ rows) fields =
-    if fits row.1 fields then (numbers_in n row.1 fields >>= λ numbers. Ok (row.0, numbers)) else parse_line n rows fields
+    if fits row.1 fields then
+    (numbers_in n row.1 fields >>= λ numbers. Ok (row.0, numbers)) else parse_line n rows fields
 
 -- ---- what is written
 

@@ -45,7 +45,8 @@ pub record Gives (old new : Known) (given : List ℕ) : Type 0 where
 -- `Ok(n)`: the first n bytes of the piece were given, none only at the end or without room; `Err`: the bytes ended
 -- with a failure
 abbrev pub ReadGives : {E : Type 0} → Known → Known → Result ℕ E → List ℕ → Type 0
-ReadGives old new r piece = MatchResult r (λ n. Gives old new (take n piece) × (n ≡ 0 → 0 < length piece → MayGive new (over EndOfInput)))
+ReadGives old new r piece =
+    MatchResult r (λ n. Gives old new (take n piece) × (n ≡ 0 → 0 < length piece → MayGive new (over EndOfInput)))
     (λ _. Gives old new [] × MayGive new (over Failure))
 
 -- the knowledge of the bytes that a reader of std has left

@@ -1,6 +1,8 @@
 -- Lines, fields and numbers, the parts of all texts.
-use Rattle.std.specs.Prelude.{◌≡◌, ℕ, ◌+◌, ◌-◌, ◌^◌, ◌==◌, ◌&&◌, ◌||◌, nat_lt, nat_le, nat_eq, not, Bool, if◌then◌else◌}
-use Rattle.std.specs.Prelude.{List, [], ◌∷◌, ◌++◌, length, take, drop, codes, decimal, Option, Some, None, Ok, Err, slice_index}
+use Rattle.std.specs.Prelude.{◌≡◌, ℕ, ◌+◌, ◌-◌, ◌^◌, ◌==◌, ◌&&◌, ◌||◌, nat_lt, nat_le, nat_eq, not, Bool}
+use Rattle.std.specs.Prelude.{if◌then◌else◌}
+use Rattle.std.specs.Prelude.{List, [], ◌∷◌, ◌++◌, length, take, drop, codes, decimal, Option, Some, None, Ok, Err}
+use Rattle.std.specs.Prelude.{slice_index}
 use Rattle.std.specs.declared.result.Result.{Result}
 use Rattle.std.specs.List.{slice_split, join_with_byte, position_or_len, list_all, starts_with}
 use Rattle.std.specs.Str.{bytes_eq}
@@ -51,7 +53,8 @@ abbrev pub front_of : List ℕ → Front
 front_of bytes =
     let place = position_or_len is_line_feed bytes in
     if nat_lt place (length bytes) && nat_le place longest_line then Whole (take place bytes) (drop (place + 1) bytes)
-    else (if nat_lt longest_line (length bytes) then TooLong else (if nat_lt 0 (length bytes) then Unfinished else Nothing))
+    else (if nat_lt longest_line (length bytes) then TooLong else
+    (if nat_lt 0 (length bytes) then Unfinished else Nothing))
 
 -- the fault of input that ends before a line is whole
 abbrev pub fault_at : Ending → TextFault
@@ -71,12 +74,15 @@ fields_of bytes = slice_split (λ b. b == 32) bytes
 
 -- the digit 0, or digits that begin with another one
 abbrev pub is_number : List ℕ → Bool
-is_number field = nat_lt 0 (length field) && (list_all is_ascii_digit field && (nat_lt (length field) 2 || not (slice_index field 0 == 48)))
+is_number field =
+    nat_lt 0 (length field) &&
+    (list_all is_ascii_digit field && (nat_lt (length field) 2 || not (slice_index field 0 == 48)))
 
 -- the number of a number field of line n, up to a greatest one
 abbrev pub number_in : ℕ → ℕ → List ℕ → Result ℕ TextFault
 number_in n greatest field =
-    if is_number field then (if nat_le (digits_value 10 field) greatest then Ok (digits_value 10 field) else Err (Limit n))
+    if is_number field then (if nat_le
+    (digits_value 10 field) greatest then Ok (digits_value 10 field) else Err (Limit n))
     else Err (Number n)
 
 infixl 10 ◌>>=◌
@@ -87,7 +93,8 @@ abbrev pub ◌>>=◌ : {A B : Type 0} → Result A TextFault → (A → Result B
 
 -- the number of a number field of line n, in a range
 abbrev pub number_between : ℕ → ℕ → ℕ → List ℕ → Result ℕ TextFault
-number_between n least greatest field = number_in n greatest field >>= λ v. if nat_le least v then Ok v else Err (Limit n)
+number_between n least greatest field =
+    number_in n greatest field >>= λ v. if nat_le least v then Ok v else Err (Limit n)
 
 -- the bytes that the last line begins with
 abbrev pub end_word : List ℕ

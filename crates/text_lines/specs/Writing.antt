@@ -1,5 +1,6 @@
 -- Writing texts.
-use Rattle.std.specs.Prelude.{◌≡◌, ℕ, zero, suc, Bool, true, ◌==◌, ◌&&◌, not, if◌then◌else◌, is_err, List, ◌++◌, length, Option, Ok, Err}
+use Rattle.std.specs.Prelude.{◌≡◌, ℕ, zero, suc, Bool, true, ◌==◌, ◌&&◌, not, if◌then◌else◌, is_err, List, ◌++◌}
+use Rattle.std.specs.Prelude.{length, Option, Ok, Err}
 use Rattle.std.specs.declared.result.Result.{Result}
 use Rattle.std.specs.Io.KnownBytes.{Appends}
 
@@ -70,14 +71,16 @@ pub record Puts (old new : Option (List ℕ)) (kept rest text : List ℕ) : Type
 -- ---- a text written to a sink, by its contents, whether it has refused, and its calls
 
 -- the sink took all of the text, in any number of calls
-pub record TakesAll {S : Type 0} (contents : S → Option (List ℕ)) (has_refused : S → Bool) (transition : S → Asked → S → Type 0)
+pub record TakesAll {S : Type 0} (contents : S → Option (List ℕ))
+    (has_refused : S → Bool) (transition : S → Asked → S → Type 0)
     (text : List ℕ) (old new : S) : Type 0 where
   pub bytes : Appends (contents old) (contents new) text
   pub asked : IsWritten transition old new
   pub refused : has_refused new ≡ has_refused old
 
 -- the sink took a prefix of the text, and then refused
-pub record TakesFront {S : Type 0} (contents : S → Option (List ℕ)) (has_refused : S → Bool) (transition : S → Asked → S → Type 0)
+pub record TakesFront {S : Type 0} (contents : S → Option (List ℕ))
+    (has_refused : S → Bool) (transition : S → Asked → S → Type 0)
     (text : List ℕ) (old new : S) : Type 0 where
   pub bytes : AppendsFront (contents old) (contents new) text
   pub asked : IsRefused transition old new
@@ -85,13 +88,15 @@ pub record TakesFront {S : Type 0} (contents : S → Option (List ℕ)) (has_ref
 
 -- a call that succeeds writes all of the text; a call that fails writes a prefix of it, and its last call on the sink
 -- is the refused one
-abbrev pub Writes : {S T E : Type 0} → (S → Option (List ℕ)) → (S → Bool) → (S → Asked → S → Type 0) → List ℕ → S → S → Result T E → Type 0
+abbrev pub Writes : {S T E : Type 0} → (S → Option (List ℕ)) → (S → Bool) → (S → Asked → S → Type 0) → List ℕ → S → S
+    → Result T E → Type 0
 Writes contents has_refused transition text old new (Ok x) = TakesAll contents has_refused transition text old new
 Writes contents has_refused transition text old new (Err e) = TakesFront contents has_refused transition text old new
 
 -- the text comes after the bytes held back; the sink took a prefix of both, in any number of calls, and the rest is
 -- held back now
-pub record TakesSome {S : Type 0} (contents : S → Option (List ℕ)) (has_refused : S → Bool) (transition : S → Asked → S → Type 0)
+pub record TakesSome {S : Type 0} (contents : S → Option (List ℕ))
+    (has_refused : S → Bool) (transition : S → Asked → S → Type 0)
     (kept rest text : List ℕ) (old new : S) : Type 0 where
   pub bytes : Puts (contents old) (contents new) kept rest text
   pub asked : IsWritten transition old new
@@ -99,7 +104,10 @@ pub record TakesSome {S : Type 0} (contents : S → Option (List ℕ)) (has_refu
 
 -- a call that succeeds writes the text after the bytes held back, and may hold back the end; a call that fails writes
 -- a prefix of both
-abbrev pub PutsText : {S T E : Type 0} → (S → Option (List ℕ)) → (S → Bool) → (S → Asked → S → Type 0) → List ℕ → List ℕ → List ℕ → S → S
+abbrev pub PutsText : {S T E : Type 0} → (S → Option (List ℕ)) → (S → Bool) → (S → Asked → S → Type 0) → List ℕ
+    → List ℕ → List ℕ → S → S
     → Result T E → Type 0
-PutsText contents has_refused transition kept rest text old new (Ok x) = TakesSome contents has_refused transition kept rest text old new
-PutsText contents has_refused transition kept rest text old new (Err e) = TakesFront contents has_refused transition (kept ++ text) old new
+PutsText contents has_refused transition kept rest text old new (Ok x) =
+    TakesSome contents has_refused transition kept rest text old new
+PutsText contents has_refused transition kept rest text old new (Err e) =
+    TakesFront contents has_refused transition (kept ++ text) old new

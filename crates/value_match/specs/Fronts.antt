@@ -32,7 +32,8 @@ NonePasses Passes values = All (λ value. ¬ (Passes value.life)) values
 
 -- the value that stays longest among those that pass, or none if none passes
 abbrev pub FindsLongest : (Life → Type 0) → List MatchedValue → Option MatchedValue → Type 0
-FindsLongest Passes values found = MatchOption found (NonePasses Passes values) (λ longest. IsLongestOf Passes values longest)
+FindsLongest Passes values found =
+    MatchOption found (NonePasses Passes values) (λ longest. IsLongestOf Passes values longest)
 
 -- ---- values sorted by their enqueues' returns, and the one that stays longest in each prefix
 
@@ -63,7 +64,8 @@ Any life = Unit {0}
 pub record IsFrontAt (values : List MatchedValue) (entries : List Front) (i : ℕ) (front : Front) : Type 0 where
   pub returns : (e : Front) → front.enqueue_return ≡ (slice_index_or entries i e).enqueue_return
   pub within : front.place < length values
-  pub longest : (d : MatchedValue) → IsLongestOf Any (take (i + 1) (values_at values entries d)) (slice_index_or values front.place d)
+  pub longest : (d : MatchedValue)
+      → IsLongestOf Any (take (i + 1) (values_at values entries d)) (slice_index_or values front.place d)
 
 -- a front for each entry
 pub record HasFronts (values : List MatchedValue) (entries fronts : List Front) : Type 0 where

@@ -29,7 +29,8 @@ IsMaybeOperation operations place o = IsMaybeAt (timed operations) place o
 -- the enqueue of the value from this source: an operation, or that of an initial value
 abbrev pub IsSource : List ℕ → List Operation → Source → Operation → Type 0
 IsSource initial operations (Enq place) enqueue = IsOperation operations place enqueue
-IsSource initial operations (Initial place) enqueue = option_map (initial_enqueue (length initial) place) (slice_get initial place) ≡ Some enqueue
+IsSource initial operations (Initial place) enqueue =
+    option_map (initial_enqueue (length initial) place) (slice_get initial place) ≡ Some enqueue
 
 -- the life of the value from this source, with its dequeue at this place, if there is one
 abbrev pub IsNamed : List ℕ → List Operation → Source → Option ℕ → Life → Type 0
@@ -43,7 +44,8 @@ pub record HoldsValues (history : Contents) (values : List MatchedValue) : Type 
 
 -- the steps of a cover name these lives, one by one
 abbrev pub NamesCover : List ℕ → List Operation → List CoverStep → List Life → Type 0
-NamesCover initial operations steps cover = AllZip (λ step life. IsNamed initial operations step.source step.dequeue life) steps cover
+NamesCover initial operations steps cover =
+    AllZip (λ step life. IsNamed initial operations step.source step.dequeue life) steps cover
 
 -- the sources and places of the violation are those of the operations that show it
 abbrev pub Names : List ℕ → List Operation → Violation → FullViolation → Type 0
@@ -52,13 +54,15 @@ Names initial operations (Repeat enq first second) (repeat e d d') =
     IsSource initial operations enq e × IsOperation operations first d × IsOperation operations second d'
 Names initial operations (Order enq_a enq_b deq_b deq_a) (order a b) =
     IsNamed initial operations enq_a deq_a a × IsNamed initial operations enq_b (Some deq_b) b
-Names initial operations (Witness empty cover) (witness o lives) = IsOperation operations empty o × NamesCover initial operations cover lives
+Names initial operations (Witness empty cover) (witness o lives) = IsOperation operations empty o
+    × NamesCover initial operations cover lives
 Names initial operations _ _ = ⊥
 
 -- the violation is the chosen one of the history
 abbrev pub IsChosenViolation : List ℕ → List Operation → Violation → Type 0
 IsChosenViolation initial operations violation =
-    (full : FullViolation) × Names initial operations violation full × IsChosenFullViolation (course initial operations) full
+    (full : FullViolation) × Names initial operations violation full
+    × IsChosenFullViolation (course initial operations) full
 
 -- the violation names the chosen phantom dequeue
 abbrev pub NamesChosenFresh : List ℕ → List Operation → Violation → Type 0
@@ -69,7 +73,8 @@ NamesChosenFresh initial operations violation =
 -- the violation names the chosen two dequeues of one value, and there is no phantom dequeue
 abbrev pub NamesChosenRepeat : List ℕ → List Operation → Violation → Type 0
 NamesChosenRepeat initial operations violation =
-    (enq : Operation) × (first : Operation) × (second : Operation) × Names initial operations violation (repeat enq first second)
+    (enq : Operation) × (first : Operation) × (second : Operation)
+    × Names initial operations violation (repeat enq first second)
     × IsChosenFullViolation (course initial operations) (repeat enq first second)
 
 -- a matching of the history if the first two kinds of violation are absent, else the chosen violation of the first

@@ -33,7 +33,8 @@ contents_of history = record { initial = history.initial; operations = operation
 
 -- the selection of some values, initial ones too, with all their operations, and of some empty dequeues
 abbrev pub select : (ℕ → Bool) → (ℕ → Bool) → Contents → Contents
-select values empties whole = record { initial = filter values whole.initial; operations = filter (selects values empties) whole.operations }
+select values empties whole =
+    record { initial = filter values whole.initial; operations = filter (selects values empties) whole.operations }
 
 -- a selection by some values and empty dequeues
 abbrev pub IsValueClosed : Contents → Contents → Type 0
@@ -45,17 +46,21 @@ AreLinearizable contents = IsLinearizable contents.initial contents.operations
 
 -- the whole isn't linearizable, but every other selection of it is
 abbrev pub IsMinimal : Contents → Type 0
-IsMinimal whole = ¬ (AreLinearizable whole) × ((selected : Contents) → IsValueClosed whole selected → selected ≢ whole → AreLinearizable selected)
+IsMinimal whole = ¬ (AreLinearizable whole)
+    × ((selected : Contents) → IsValueClosed whole selected → selected ≢ whole → AreLinearizable selected)
 
 -- the small history is a selection that keeps each line of the violation
 abbrev pub KeepsViolation : HistoryView → Violation → HistoryView → Type 0
 KeepsViolation whole violation small = IsValueClosed (contents_of whole) (contents_of small)
-    × ((line : ClaimLine) → Contains (violation_lines whole violation) line → Contains (lines_of_history small.initial (operations_of small.events)) line)
+    × ((line : ClaimLine) → Contains (violation_lines whole violation) line
+    → Contains (lines_of_history small.initial (operations_of small.events)) line)
 
 -- the claim of the chosen violation of the small history is that of the violation in the whole
 abbrev pub StaysChosen : HistoryView → Violation → HistoryView → Type 0
-StaysChosen whole violation small = (found : Violation) × IsChosenViolation small.initial (operations_of small.events) found
-    × (claim_of small.initial (operations_of small.events) (No found) ≡ claim_of whole.initial (operations_of whole.events) (No violation))
+StaysChosen whole violation small = (found : Violation)
+    × IsChosenViolation small.initial (operations_of small.events) found
+    × (claim_of small.initial (operations_of small.events) (No found)
+    ≡ claim_of whole.initial (operations_of whole.events) (No violation))
 
 -- the second list has some elements of the first, in their order
 abbrev pub ArePartOf : {X : Type 0} → List X → List X → Type 0
@@ -63,10 +68,12 @@ ArePartOf {X} whole part = (keeps : X → Bool) × (part ≡ filter keeps whole)
 
 -- no cover of the same empty dequeue has fewer values
 abbrev pub IsShortestCover : Course → FullViolation → Type 0
-IsShortestCover c (witness empty cover) = (other : List Life) → IsWitnessViolation c empty other → length cover ≤ length other
+IsShortestCover c (witness empty cover) = (other : List Life) → IsWitnessViolation c empty other
+    → length cover ≤ length other
 IsShortestCover c _ = ⊤
 
 -- no cover of the violation's empty dequeue has fewer values
 abbrev pub HasShortestCover : HistoryView → Violation → Type 0
-HasShortestCover history violation = (full : FullViolation) → Names history.initial (operations_of history.events) violation full
+HasShortestCover history violation = (full : FullViolation)
+    → Names history.initial (operations_of history.events) violation full
     → IsShortestCover (course history.initial (operations_of history.events)) full

@@ -14,13 +14,15 @@ use Rattle.claims.specs.Shown.{violation_places}
 -- `YES` with the chosen order, or `NO` with the chosen violation
 abbrev pub IsVerdict : List ℕ → List Operation → Verdict → Type 0
 IsVerdict initial operations (Yes places) =
-    (order : List Operation) × ArePlacesOf operations places order × IsChosenOrder (course initial operations) (timed order)
+    (order : List Operation) × ArePlacesOf operations places order
+    × IsChosenOrder (course initial operations) (timed order)
 IsVerdict initial operations (No violation) = IsChosenViolation initial operations violation
 
 -- a `YES` lists a linearization for a queue that holds these values first; the lines at the places of a `NO` show a
 -- violation
 abbrev pub IsEvidence : List ℕ → List Operation → Verdict → Type 0
-IsEvidence initial operations (Yes places) = (order : List Operation) × ArePlacesOf operations places order × IsLegalOrder initial operations order
+IsEvidence initial operations (Yes places) = (order : List Operation) × ArePlacesOf operations places order
+    × IsLegalOrder initial operations order
 IsEvidence initial operations (No violation) = IsWithin initial operations (No violation)
     × Shows initial operations (violation_kind violation) (lines_at initial operations (violation_places violation))
 

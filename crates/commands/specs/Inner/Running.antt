@@ -13,4 +13,5 @@ pub record PrintsText (reason : ErrorKind) (old new : Option (List ℕ)) (refuse
 
 -- an error of this kind prints its text, or memory ran out
 abbrev pub Explains : ErrorKind → Option (List ℕ) → Option (List ℕ) → Bool → ℕ → Type 0
-Explains reason old new refused result = PrintsText reason old new refused result ⊎ PrintsAnswer old new refused result memory_fault
+Explains reason old new refused result = PrintsText reason old new refused result
+    ⊎ PrintsAnswer old new refused result memory_fault

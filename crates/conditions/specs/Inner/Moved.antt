@@ -19,14 +19,17 @@ moved_source places (Initial p) = Initial p
 
 -- a value of a cover by other places
 abbrev pub moved_step : List ℕ → CoverStep → CoverStep
-moved_step places step = record { source = moved_source places step.source; dequeue = option_map (moved_place places) step.dequeue }
+moved_step places step =
+    record { source = moved_source places step.source; dequeue = option_map (moved_place places) step.dequeue }
 
 -- a violation by other places
 abbrev pub moved_violation : List ℕ → Violation → Violation
 moved_violation places (Fresh deq enq) = Fresh (moved_place places deq) (option_map (moved_place places) enq)
-moved_violation places (Repeat enq first second) = Repeat (moved_source places enq) (moved_place places first) (moved_place places second)
+moved_violation places (Repeat enq first second) =
+    Repeat (moved_source places enq) (moved_place places first) (moved_place places second)
 moved_violation places (Order enq_a enq_b deq_b deq_a) =
-    Order (moved_source places enq_a) (moved_source places enq_b) (moved_place places deq_b) (option_map (moved_place places) deq_a)
+    Order (moved_source places enq_a) (moved_source places enq_b) (moved_place places deq_b)
+    (option_map (moved_place places) deq_a)
 moved_violation places (Witness empty cover) = Witness (moved_place places empty) (map (moved_step places) cover)
 
 -- a verdict by other places

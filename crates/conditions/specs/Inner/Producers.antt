@@ -1,5 +1,6 @@
 -- The producers of values, found by value, and the producers to whose selections an operation belongs.
-use Rattle.std.specs.Prelude.{◌≡◌, ℕ, Bool, true, false, nat_lt, List, Contains, Option, Some, None, option_map, if◌then◌else◌}
+use Rattle.std.specs.Prelude.{◌≡◌, ℕ, Bool, true, false, nat_lt, List, Contains, Option, Some, None, option_map}
+use Rattle.std.specs.Prelude.{if◌then◌else◌}
 use Rattle.std.specs.List.Sorted.{IsNonDecreasingBy}
 use Rattle.std.specs.Option.{option_map_or}
 use Rattle.event_records.specs.declared.limits.TheConstants.{ORIGIN}
@@ -29,7 +30,8 @@ produced_by o = option_map (λ v. record { value = v; producer = producer_at o }
 pub record AreProducers (whole : Contents) (by_value : List Produced) : Type 0 where
   pub rise : IsNonDecreasingBy (λ x. x.value) by_value
   pub right : (x : Produced) → Contains by_value x → producer_of whole x.value ≡ Some x.producer
-  pub all : (v : ℕ) (p : Producer) → producer_of whole v ≡ Some p → (x : Produced) × Contains by_value x × (x.value ≡ v)
+  pub all : (v : ℕ) (p : Producer) → producer_of whole v ≡ Some p
+      → (x : Produced) × Contains by_value x × (x.value ≡ v)
 
 -- the producers to whose selections the operations on a value belong: only its own, or all if it has none
 abbrev pub share_of_value : Option Producer → Share
@@ -39,7 +41,8 @@ share_of_value (Some p) = Only p
 -- the producers to whose selections an operation of this kind belongs; for an empty dequeue all, or none
 abbrev pub share_of : Contents → Emptiness → OpKind → Share
 share_of whole emptiness kind =
-    option_map_or (λ v. share_of_value (producer_of whole v)) (value_of kind) (if judges_empties emptiness then Everybody else Nobody)
+    option_map_or (λ v. share_of_value (producer_of whole v)) (value_of kind)
+    (if judges_empties emptiness then Everybody else Nobody)
 
 -- whether this producer is one of these
 abbrev pub goes_to : Producer → Share → Bool

@@ -47,10 +47,12 @@ pub record IsSharedOut (share : Share) (used : List Bool) (place : ℕ) (before 
 abbrev pub HasSharedOut : List Operation → ℕ → List Bool → List Produced → Emptiness → List (List ℕ) → Type 0
 HasSharedOut operations count used by_value emptiness buckets = (length buckets ≡ PRODUCERS)
     × ((whole : Contents) → AreProducers whole by_value → (k : ℕ) → k < PRODUCERS → slice_index_or used k false ≡ true
-    → ArePlacesOf operations (slice_index_or buckets k []) (filter (λ o. goes_to (ranked k) (share_of whole emptiness o.kind)) (take count operations)))
+    → ArePlacesOf operations (slice_index_or buckets k [])
+    (filter (λ o. goes_to (ranked k) (share_of whole emptiness o.kind)) (take count operations)))
 
 -- for each producer in use the places of its selection
-pub record AreSharedOut (emptiness : Emptiness) (whole : Contents) (used : List Bool) (buckets : List (List ℕ)) : Type 0 where
+pub record AreSharedOut (emptiness : Emptiness) (whole : Contents) (used : List Bool)
+    (buckets : List (List ℕ)) : Type 0 where
   pub one_each : length buckets ≡ PRODUCERS
   pub marked : AreMarked whole.operations used
   pub places : (k : ℕ) → k < PRODUCERS → slice_index_or used k false ≡ true

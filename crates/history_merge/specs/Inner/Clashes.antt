@@ -18,4 +18,5 @@ IsSought (Whole e) x = x.event ≡ e
 pub record IsFirstSought (events : List Event) (sought : Sought) (x : Placed) : Type 0 where
   pub stands : Stands events x
   pub is_sought : IsSought sought x
-  pub none_before : (i : ℕ) (e : Event) → i < x.place → slice_get events i ≡ Some e → ¬ (IsSought sought (record { place = i; event = e }))
+  pub none_before : (i : ℕ) (e : Event) → i < x.place → slice_get events i ≡ Some e
+      → ¬ (IsSought sought (record { place = i; event = e }))

@@ -1,5 +1,6 @@
 -- A history keeps the operations of its events, which determine the events.
-use Rattle.std.specs.Prelude.{◌≡◌, ℕ, ◌+◌, ◌<◌, ◌≤◌, Bool, true, false, not, nat_eq, nat_le, All, IfSome, List, [], ◌∷◌, Option, None, Some, ⊤}
+use Rattle.std.specs.Prelude.{◌≡◌, ℕ, ◌+◌, ◌<◌, ◌≤◌, Bool, true, false, not, nat_eq, nat_le, All, IfSome, List, []}
+use Rattle.std.specs.Prelude.{◌∷◌, Option, None, Some, ⊤}
 use Rattle.std.specs.Prelude.{find, length, option_and_then, slice_index_or}
 use Rattle.std.specs.Bool.{then_some}
 use Rattle.std.specs.Option.{option_map_or}
@@ -30,7 +31,8 @@ due_in thread events = option_and_then (λ r. then_some (not (is_call r.what)) r
 
 -- an event may follow another in its thread: a return answers the call before it, and a call comes after a return
 abbrev pub FollowsInTurn : Event → Event → Type 0
-FollowsInTurn e next = (is_call e.what ≡ true → answers e.what next.what ≡ true) × (is_call e.what ≡ false → is_call next.what ≡ true)
+FollowsInTurn e next = (is_call e.what ≡ true → answers e.what next.what ≡ true)
+    × (is_call e.what ≡ false → is_call next.what ≡ true)
 
 -- the next event of each event's thread follows it in turn
 abbrev pub AreInTurn : List Event → Type 0

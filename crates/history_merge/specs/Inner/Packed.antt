@@ -48,11 +48,13 @@ back_upper upper lower below = div-mul-add upper LOWER lower below
 pub back_lower : (upper lower : ℕ) → lower < LOWER → joined upper lower % LOWER ≡ lower
 back_lower upper lower below = mod-mul-add upper LOWER lower below
 
-pub back_upper_value : (t : Tag) (upper lower : ℕ) → value_of (kind_by t (joined upper lower)) ≡ joined upper lower → lower < LOWER
+pub back_upper_value : (t : Tag) (upper lower : ℕ) → value_of (kind_by t (joined upper lower)) ≡ joined upper lower
+    → lower < LOWER
     → value_of (kind_by t (joined upper lower)) / LOWER ≡ upper
 back_upper_value t upper lower same below = ap (λ v. v / LOWER) same ∙ back_upper upper lower below
 
-pub back_lower_value : (t : Tag) (upper lower : ℕ) → value_of (kind_by t (joined upper lower)) ≡ joined upper lower → lower < LOWER
+pub back_lower_value : (t : Tag) (upper lower : ℕ) → value_of (kind_by t (joined upper lower)) ≡ joined upper lower
+    → lower < LOWER
     → value_of (kind_by t (joined upper lower)) % LOWER ≡ lower
 back_lower_value t upper lower same below = ap (λ v. v % LOWER) same ∙ back_lower upper lower below
 

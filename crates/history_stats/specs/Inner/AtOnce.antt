@@ -16,4 +16,5 @@ is_kept_before gap kept v = option_map_or (λ t. nat_lt t gap) (get nat_cmp kept
 
 -- the ticket is that of the last return of the operations, if there is one
 abbrev pub IsLastReturn : List Operation → ℕ → Type 0
-IsLastReturn operations last = (ticket : ℕ) → list_any (λ o. nat_le ticket o.ret) operations ≡ (nat_lt 0 (length operations) && nat_le ticket last)
+IsLastReturn operations last = (ticket : ℕ)
+    → list_any (λ o. nat_le ticket o.ret) operations ≡ (nat_lt 0 (length operations) && nat_le ticket last)

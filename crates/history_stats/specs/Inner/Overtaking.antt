@@ -1,5 +1,6 @@
 -- The times at which values were enqueued and dequeued, with the dequeues.
-use Rattle.std.specs.Prelude.{◌≡◌, ℕ, ◌≤◌, ◌<◌, ◌&&◌, take, Bool, List, length, map, not, nat_lt, count_by, find, filter_map, All, Option, None, option_map}
+use Rattle.std.specs.Prelude.{◌≡◌, ℕ, ◌≤◌, ◌<◌, ◌&&◌, take, Bool, List, length, map, not, nat_lt, count_by, find}
+use Rattle.std.specs.Prelude.{filter_map, All, Option, None, option_map}
 use Rattle.std.specs.Ordering.{nat_cmp}
 use Rattle.std.specs.BTreeMap.{BTreeMap, get}
 use Rattle.history_merge.specs.declared.operation.Operation.{Operation}
@@ -19,7 +20,9 @@ enqueue_call operations v = option_map (λ e. e.call) (find (λ o. put v o.kind)
 
 -- an operation as a dequeue of an enqueued value, if it is one
 abbrev pub taking_by : List Operation → Operation → OpKind → Option Taking
-taking_by operations o (Dequeue v) = option_map (λ call. record { enqueue_call = call; call = o.call; ret = o.ret; value = v }) (enqueue_call operations v)
+taking_by operations o (Dequeue v) =
+    option_map (λ call. record { enqueue_call = call; call = o.call; ret = o.ret; value = v })
+    (enqueue_call operations v)
 taking_by operations o _ = None
 
 -- the dequeues of enqueued values
@@ -41,11 +44,13 @@ AreEnqueueCalls operations calls = (v : ℕ) → get nat_cmp calls v ≡ enqueue
 -- there are as many such stays as values that were enqueued before a ticket and not taken before another
 abbrev pub CountStays : List Operation → List ℕ → List Stay → Type 0
 CountStays operations calls stays = (put_before gap : ℕ) →
-    count_by (stays_at put_before (count_before gap calls)) stays ≡ stay_count gap operations (values_put_before put_before operations)
+    count_by (stays_at put_before (count_before gap calls)) stays
+    ≡ stay_count gap operations (values_put_before put_before operations)
 
 -- the overtaking of a dequeue, by the stays of the values
 abbrev pub overtaking_among : List ℕ → List Stay → Taking → Option Overtaking
-overtaking_among calls stays t = overtaking_of (count_by (stays_at t.enqueue_call (count_before t.ret calls)) stays) t.call t.value
+overtaking_among calls stays t =
+    overtaking_of (count_by (stays_at t.enqueue_call (count_before t.ret calls)) stays) t.call t.value
 
 -- the stays before the place are tallied, by when their values were taken
 pub record AreTallied (limit : ℕ) (stays : List Stay) (place : ℕ) (levels : List (List ℕ)) : Type 0 where

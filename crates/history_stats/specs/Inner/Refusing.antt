@@ -35,4 +35,5 @@ count_above most heights = count_by (λ h. nat_lt most h) heights
 
 -- the window never exceeds this number
 abbrev pub stays_within : List ℕ → ℕ → Window → Bool
-stays_within heights most w = nat_le w.start most && nat_eq (count_above most (take w.from heights)) (count_above most (take w.to heights))
+stays_within heights most w =
+    nat_le w.start most && nat_eq (count_above most (take w.from heights)) (count_above most (take w.to heights))

@@ -15,7 +15,8 @@ pub record HasLevels (limit : ℕ) (levels : List (List ℕ)) : Type 0 where
 -- the count of each block is the number of numbers in it
 abbrev pub Counts : List (List ℕ) → List ℕ → Type 0
 Counts levels numbers =
-    (k j : ℕ) → k < length levels → slice_index_or (slice_index_or levels k []) j 0 ≡ count_by (λ x. nat_eq (halved x k) j) numbers
+    (k j : ℕ) → k < length levels
+    → slice_index_or (slice_index_or levels k []) j 0 ≡ count_by (λ x. nat_eq (halved x k) j) numbers
 
 -- the levels count these numbers, each up to the limit
 pub record IsTally (limit : ℕ) (numbers : List ℕ) (levels : List (List ℕ)) : Type 0 where

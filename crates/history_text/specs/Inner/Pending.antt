@@ -1,5 +1,6 @@
 -- The lines of events that a reader takes, in texts whose calls may be pending.
-use Rattle.std.specs.Prelude.{◌≡◌, ℕ, ◌<◌, ◌≤◌, ⊤, ◌⊎◌, Bool, true, false, List, length, Option, Some, None, IfSome, is_some, ◌++◌}
+use Rattle.std.specs.Prelude.{◌≡◌, ℕ, ◌<◌, ◌≤◌, ⊤, ◌⊎◌, Bool, true, false, List, length, Option, Some, None, IfSome}
+use Rattle.std.specs.Prelude.{is_some, ◌++◌}
 use Rattle.event_records.specs.declared.event.Event.{Event}
 use Rattle.event_records.specs.declared.limits.TheConstants.{MAX_EVENTS, MAX_THREADS}
 use Rattle.text_lines.specs.declared.fault.TextFault.{TextFault}
@@ -18,7 +19,14 @@ use Rattle.history_text.specs.Versions.{InitialFault, AfterCount, value_format}
 
 -- the line that counts pending calls, as the only item of a format
 abbrev pub open_format : Format ℕ
-open_format = record { fields = open_fields; HasLine = λ calls. calls ≤ MAX_THREADS; most = 1; is_counted = false; read = open_in }
+open_format =
+    record {
+      fields = open_fields;
+      HasLine = λ calls. calls ≤ MAX_THREADS;
+      most = 1;
+      is_counted = false;
+      read = open_in;
+    }
 
 -- the line at which the events of such a text stop: in a pending text it counts the pending calls
 pub record IsStop (is_pending : Bool) (calls : Option ℕ) : Type 0 where
@@ -32,7 +40,8 @@ IsEventLine is_pending k bytes (Stop calls) = (line bytes ≡ stop_line calls k)
 
 -- the line of an event after k others, or the line at which the events stop, was taken
 abbrev pub TakesEventLine : Bool → Left → Left → ℕ → EventLine → Type 0
-TakesEventLine is_pending old new k (OneEvent e) = Takes old new (line_of event_format e) × HasEventLine e × (k < MAX_EVENTS)
+TakesEventLine is_pending old new k (OneEvent e) = Takes old new (line_of event_format e) × HasEventLine e
+    × (k < MAX_EVENTS)
 TakesEventLine is_pending old new k (Stop calls) = Takes old new (stop_line calls k) × IsStop is_pending calls
 
 -- the lines of these events, and the line at which they stop, were taken
@@ -45,7 +54,8 @@ TakesEvents is_pending old new events calls =
 -- count
 abbrev pub HasEventsFault : Bool → ℕ → Left → List Event → Option ℕ → TextFault → Type 0
 HasEventsFault is_pending n old events calls fault =
-    HasFirstFault (λ ending bytes f. FaultAfterEvents is_pending n ending f bytes events calls) (NoRoom event_format) old fault
+    HasFirstFault (λ ending bytes f. FaultAfterEvents is_pending n ending f bytes events calls)
+    (NoRoom event_format) old fault
 
 -- the first fault of the lines of initial values, from line n on; version 1 has none
 abbrev pub ValuesFault : Version → ℕ → Ending → List ℕ → TextFault → Type 0

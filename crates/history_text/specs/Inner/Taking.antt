@@ -52,7 +52,8 @@ pub record IsSpelled {A : Type 0} (format : Format A) (fields : List (List ℕ))
 
 -- the line that counts the initial values, as the only item of a format
 abbrev pub count_format : Format ℕ
-count_format = record { fields = count_fields; HasLine = λ k. k ≤ MAX_INITIAL; most = 1; is_counted = false; read = count_in }
+count_format =
+    record { fields = count_fields; HasLine = λ k. k ≤ MAX_INITIAL; most = 1; is_counted = false; read = count_in }
 
 -- the line of a setting, as the only item of a format
 abbrev pub setting_format : Format (ℕ × ℕ)
@@ -81,15 +82,18 @@ TakesItem format old new k None = TakesEnd format.is_counted old new k
 
 -- the lines of these items and their end were taken
 abbrev pub TakesItems : {A : Type 0} → Format A → Left → Left → List A → Type 0
-TakesItems format old new items = (mid : Left) × Takes old mid (lines_of format items) × TakesEnd format.is_counted mid new (length items)
+TakesItems format old new items = (mid : Left) × Takes old mid (lines_of format items)
+    × TakesEnd format.is_counted mid new (length items)
 
 -- the first fault of the lines of items from line n on
 abbrev pub HasItemsFault : {A : Type 0} → Format A → ℕ → Left → TextFault → Type 0
-HasItemsFault format n old fault = HasFirstFault (λ ending bytes f. ItemFault format n ending f bytes) (NoRoom format) old fault
+HasItemsFault format n old fault =
+    HasFirstFault (λ ending bytes f. ItemFault format n ending f bytes) (NoRoom format) old fault
 
 -- the first fault of the lines of k items from line n on
 abbrev pub HasFaultAmong : {A : Type 0} → Format A → ℕ → ℕ → Left → TextFault → Type 0
-HasFaultAmong format k n old fault = HasFirstFault (λ ending bytes f. FaultAmong format k n ending f bytes) (NoRoomAmong format k) old fault
+HasFaultAmong format k n old fault =
+    HasFirstFault (λ ending bytes f. FaultAmong format k n ending f bytes) (NoRoomAmong format k) old fault
 
 -- the fault is one of the input, not of the reader's memory
 abbrev pub IsOfInput : TextFault → Type 0

@@ -33,7 +33,8 @@ NoneBelow Is limit = (p : Position) → Is p → IsSomeAnd limit (λ q. ¬ (Stan
 
 -- the places of the enqueues of the first i values, the dequeues of the first j and the first k no-ops, in rising
 -- order of position; no operation that is left comes before one of these
-pub record IsMergedUpTo (history : Contents) (lives : List Life) (noops : List Placed) (i j left k : ℕ) (places : List ℕ) : Type 0 where
+pub record IsMergedUpTo (history : Contents) (lives : List Life) (noops : List Placed) (i j left k : ℕ)
+    (places : List ℕ) : Type 0 where
   pub values : List Placed
   pub held : HoldsUpTo history lives i j left values
   pub sorted : List Placed
@@ -44,4 +45,5 @@ pub record IsMergedUpTo (history : Contents) (lives : List Life) (noops : List P
 
 -- the places of the values' operations and of the no-ops, in rising order of position
 abbrev pub IsMerge : Contents → List Placed → List ℕ → Type 0
-IsMerge history noops places = (values : List Placed) × PlacesValues history values × AreByPosition (values ++ noops) places
+IsMerge history noops places = (values : List Placed) × PlacesValues history values
+    × AreByPosition (values ++ noops) places

@@ -57,7 +57,8 @@ pub record IsOrderOf (history : Contents) (order : List Timed) : Type 0 where
 
 -- no enqueue is called after its value or a later one has entered
 abbrev pub AreCalledInTime : List Life → Type 0
-AreCalledInTime lives = (i : ℕ) (life : Life) → slice_get lives i ≡ Some life → enqueue_call life ≤ least_entered_by (drop i lives)
+AreCalledInTime lives = (i : ℕ) (life : Life) → slice_get lives i ≡ Some life
+    → enqueue_call life ≤ least_entered_by (drop i lives)
 
 -- the number of a class
 abbrev pub class_number : Class → ℕ

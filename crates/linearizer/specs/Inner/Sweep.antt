@@ -47,7 +47,8 @@ IsDequeuedAt dequeues i place timed =
 abbrev pub TakesOneOf : List MatchedValue → Timed → Timed → ℕ → Type 0
 TakesOneOf values first_in first_out place =
     (m : MatchedValue) → slice_get values first_in.place ≡ Some m
-    → ((first_out.time < leaves_from m.life) × (place ≡ first_out.place)) ⊎ ((leaves_from m.life ≤ first_out.time) × (place ≡ first_in.place))
+    → ((first_out.time < leaves_from m.life) × (place ≡ first_out.place))
+    ⊎ ((leaves_from m.life ≤ first_out.time) × (place ≡ first_in.place))
 
 -- the values in their chosen order, each once and by its place, with the gap of its enqueue; no enqueue is called too
 -- late

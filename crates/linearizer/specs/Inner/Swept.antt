@@ -20,7 +20,8 @@ pub record IsPassedOver (values : List MatchedValue) (next : MatchedValue) : Typ
   pub entered : Life
   pub is_left : Contains remaining entered
   pub too_late : entered_by entered < enqueue_call next.life
-  pub are_left : (x a : MatchedValue) → Contains values x → Contains values a → Overtakes x.life a.life → Contains remaining x.life
+  pub are_left : (x a : MatchedValue) → Contains values x → Contains values a → Overtakes x.life a.life
+      → Contains remaining x.life
 
 -- the values in their chosen order, or one that is passed over
 abbrev pub IsSweepOf : List MatchedValue → Swept → Type 0

@@ -4,7 +4,8 @@ use Rattle.std.specs.Option.{is_none}
 use Rattle.recorder_core.specs.declared.pending.Pending.{Pending}
 use Rattle.event_records.specs.declared.kind.Answer.{Answer}
 use Rattle.recorder_core.specs.declared.step.StepRefused.{StepRefused}
-use Rattle.recorder_core.specs.declared.step.StepRefused.TheVariants.{Closed, Held, NothingHeld, RingFull, Pending as PendingRefused, NotPending}
+use Rattle.recorder_core.specs.declared.step.StepRefused.TheVariants.{Closed, Held, NothingHeld, RingFull}
+use Rattle.recorder_core.specs.declared.step.StepRefused.TheVariants.{Pending as PendingRefused, NotPending}
 use Rattle.recorder_core.specs.declared.step.StepRefused.TheVariants.{NoAnswer, AnswerTaken, Memory}
 use Rattle.recorder_core.specs.View.{ThreadView}
 

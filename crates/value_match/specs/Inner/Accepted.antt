@@ -17,7 +17,8 @@ pub record PlacedLife : Type 0 where
 
 -- the operation at this place; out of range, any
 abbrev pub operation_at : List Operation → ℕ → Operation
-operation_at operations place = slice_index_or operations place (record { call = 0; ret = 0; thread = 0; kind = Enqueue 0 })
+operation_at operations place =
+    slice_index_or operations place (record { call = 0; ret = 0; thread = 0; kind = Enqueue 0 })
 
 -- the operation at this place, if there is one
 abbrev pub maybe_operation_at : List Operation → Option ℕ → Option Operation
@@ -27,14 +28,16 @@ maybe_operation_at operations (Some place) = Some (operation_at operations place
 -- the value whose operations have these places
 abbrev pub value_at : List Operation → Pair → PlacedLife
 value_at operations pair = record {
-  life = record { enqueue = operation_at operations pair.enqueue; dequeue = maybe_operation_at operations pair.dequeue };
+  life =
+      record { enqueue = operation_at operations pair.enqueue; dequeue = maybe_operation_at operations pair.dequeue };
   enqueue = pair.enqueue;
   dequeue = pair.dequeue;
 }
 
 -- the places of the value are those of its operations
 abbrev pub HasPlaces : List Operation → PlacedLife → Type 0
-HasPlaces operations m = IsAt operations m.enqueue (enqueue_of m.life) × IsMaybeAt operations m.dequeue (dequeue_of m.life)
+HasPlaces operations m = IsAt operations m.enqueue (enqueue_of m.life)
+    × IsMaybeAt operations m.dequeue (dequeue_of m.life)
 
 -- the values are the lives of the operations, each with its places
 abbrev pub HoldsLives : List Operation → List PlacedLife → Type 0

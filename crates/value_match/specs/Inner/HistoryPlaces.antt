@@ -21,4 +21,5 @@ history_place initial_count place = place - initial_count
 -- the source of a value whose enqueue has this place in the timeline; the first enqueues are those of the initial
 -- values
 abbrev pub history_source : ℕ → ℕ → Source
-history_source initial_count place = if nat_lt place initial_count then Initial place else Enq (history_place initial_count place)
+history_source initial_count place =
+    if nat_lt place initial_count then Initial place else Enq (history_place initial_count place)

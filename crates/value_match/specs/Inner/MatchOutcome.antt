@@ -18,13 +18,16 @@ use Rattle.value_match.specs.Inner.ByKind.{IsByKindOf}
 -- the places are those of the chosen phantom dequeue and of the call for its value
 abbrev pub AreChosenFresh : List Operation → FreshPlaces → Type 0
 AreChosenFresh operations found =
-    (deq : Operation) × (enq : Option Operation) × IsAt operations found.deq deq × IsMaybeAt operations found.enq enq × IsChosenFresh (on operations) deq enq
+    (deq : Operation) × (enq : Option Operation) × IsAt operations found.deq deq × IsMaybeAt operations found.enq enq
+    × IsChosenFresh (on operations) deq enq
 
 -- the places are those of the chosen two dequeues of one value and of its enqueue, and there is no phantom dequeue
 abbrev pub AreChosenRepeat : List Operation → RepeatPlaces → Type 0
 AreChosenRepeat operations found =
-    (enq : Operation) × (first : Operation) × (second : Operation) × IsAt operations found.enq enq × IsAt operations found.first first
-    × IsAt operations found.second second × NoFreshViolation (on operations) × IsChosenRepeat (on operations) enq first second
+    (enq : Operation) × (first : Operation) × (second : Operation) × IsAt operations found.enq enq
+    × IsAt operations found.first first
+    × IsAt operations found.second second × NoFreshViolation (on operations)
+    × IsChosenRepeat (on operations) enq first second
 
 -- the one dequeue that takes from each place, if there is one; otherwise the two dequeues of the chosen repeat
 -- violation

@@ -21,7 +21,8 @@ NoneOf calls v = All (λ call. ¬ (call.value ≡ v)) calls
 
 -- the wanted values lie in this range
 abbrev pub AreBounds : BTreeSet ℕ → Bounds → Type 0
-AreBounds wanted bounds = (v : ℕ) → v < 2 ^ 64 → contains nat_cmp wanted v ≡ true → (bounds.least ≤ v) × (v ≤ bounds.greatest)
+AreBounds wanted bounds = (v : ℕ) → v < 2 ^ 64 → contains nat_cmp wanted v ≡ true
+    → (bounds.least ≤ v) × (v ≤ bounds.greatest)
 
 -- the operation called to enqueue none of the wanted values
 abbrev pub CallsNoneOf : BTreeSet ℕ → Operation → Type 0
@@ -39,11 +40,14 @@ IsNearSource wanted operations (Dequeue v) None = contains nat_cmp wanted v ≡ 
 IsNearSource wanted operations kind source = IsSourceOf operations kind source
 
 -- such places for the operations from one place on and before another, one by one
-pub record HoldsNear (wanted : BTreeSet ℕ) (operations : List Operation) (from to : ℕ) (sources : List (Option ℕ)) : Type 0 where
+pub record HoldsNear (wanted : BTreeSet ℕ) (operations : List Operation) (from to : ℕ)
+    (sources : List (Option ℕ)) : Type 0 where
   pub one_each : from + length sources ≡ to
-  pub each : (i : ℕ) (o : Operation) → i < length sources → IsAt operations (from + i) o → IsNearSource wanted operations o.kind (slice_index_or sources i None)
+  pub each : (i : ℕ) (o : Operation) → i < length sources → IsAt operations (from + i) o
+      → IsNearSource wanted operations o.kind (slice_index_or sources i None)
 
 -- such places, with the calls of the wanted values
 abbrev pub AreNearWith : List Operation → ℕ → List (Option ℕ) → List Call → Type 0
 AreNearWith operations from sources others =
-    (wanted : BTreeSet ℕ) × HoldsNear wanted operations from (length operations) sources × HoldsOthers wanted operations others
+    (wanted : BTreeSet ℕ) × HoldsNear wanted operations from (length operations) sources
+    × HoldsOthers wanted operations others

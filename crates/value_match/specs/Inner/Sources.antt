@@ -23,15 +23,18 @@ IsSourceOf operations _ source = source ≡ None
 -- the places are the sources of the operations from one place on, one by one
 pub record HoldsSources (operations : List Operation) (from : ℕ) (sources : List (Option ℕ)) : Type 0 where
   pub one_each : from + length sources ≡ length operations
-  pub each : (i : ℕ) (o : Operation) → IsAt operations (from + i) o → IsSourceOf operations o.kind (slice_index_or sources i None)
+  pub each : (i : ℕ) (o : Operation) → IsAt operations (from + i) o
+      → IsSourceOf operations o.kind (slice_index_or sources i None)
 
 -- the operation is a phantom dequeue; the call for its value, if there is one, is at this place
 abbrev pub IsFreshFrom : List Operation → Option ℕ → Operation → Type 0
-IsFreshFrom operations source deq = (enq : Option Operation) × IsMaybeAt operations source enq × IsFreshViolation (on operations) deq enq
+IsFreshFrom operations source deq = (enq : Option Operation) × IsMaybeAt operations source enq
+    × IsFreshViolation (on operations) deq enq
 
 -- none of the first n operations is a phantom dequeue
 abbrev pub NoneFresh : List Operation → ℕ → Type 0
-NoneFresh operations n = (k : ℕ) (o : Operation) → k < n → IsAt operations k o → (enq : Option Operation) → ¬ (IsFreshViolation (on operations) o enq)
+NoneFresh operations n = (k : ℕ) (o : Operation) → k < n → IsAt operations k o → (enq : Option Operation)
+    → ¬ (IsFreshViolation (on operations) o enq)
 
 -- the operation at place i is a dequeue of the value that the one at place p called to enqueue
 pub record TakesFrom (operations : List Operation) (i p : ℕ) : Type 0 where
@@ -69,4 +72,5 @@ IsDequeuePlace operations v (Some place) = (o : Operation) × IsAt operations pl
 -- at the place of each successful enqueue stands that of its value's dequeue, if there is one
 pub record HoldsDequeues (operations : List Operation) (dequeues : List (Option ℕ)) : Type 0 where
   pub one_each : length dequeues ≡ length operations
-  pub each : (i : ℕ) (o : Operation) (v : ℕ) → IsAt operations i o → o.kind ≡ Enqueue v → IsDequeuePlace operations v (slice_index_or dequeues i None)
+  pub each : (i : ℕ) (o : Operation) (v : ℕ) → IsAt operations i o → o.kind ≡ Enqueue v
+      → IsDequeuePlace operations v (slice_index_or dequeues i None)
