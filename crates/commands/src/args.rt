@@ -45,8 +45,10 @@ pub fn print_start_fault<W: TextSink, E: TextSink>(
     terminals: Terminals,
 ) -> u8
     requires fresh { W.has_refused writer.old ≡ false }
-    ensures no_text { fault ≡ NoText → Prints (W.contents writer.old) (W.contents writer.new) (W.has_refused writer.new) result no_text 2 }
-    ensures memory { fault ≡ Memory → PrintsAnswer (W.contents writer.old) (W.contents writer.new) (W.has_refused writer.new) result memory_fault }
+    ensures no_text { fault ≡ NoText → Prints (W.contents writer.old) (W.contents writer.new)
+        (W.has_refused writer.new) result no_text 2 }
+    ensures memory { fault ≡ Memory → PrintsAnswer (W.contents writer.old) (W.contents writer.new)
+        (W.has_refused writer.new) result memory_fault }
     ensures asked { WritesAndFlushes W.transition (W.has_refused writer.new) writer.old writer.new }
     ensures passed_on { W.has_refused writer.new ≡ false → W.holds_back writer.new ≡ false }
 {

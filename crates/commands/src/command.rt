@@ -1,6 +1,7 @@
 //! A run of the program.
 ghost use Rattle.std.specs.Prelude.{◌≡◌, ◌≢◌, ◌≤◌, Bool, Some, [], false, map};
-ghost use Rattle.command_words.specs.Commands.{Request, stress, is_quiet_in, request_in, request_of, faults_in, IsInRange};
+ghost use Rattle.command_words.specs.Commands.{Request, stress, is_quiet_in, request_in, request_of, faults_in};
+ghost use Rattle.command_words.specs.Commands.{IsInRange};
 ghost use Rattle.command_words.specs.Options.{Settings};
 ghost use Rattle.commands.specs.Judging.{AnswersOrNoMemory};
 ghost use Rattle.commands.specs.Outcomes.{answer_of, NamesPlaces};
@@ -34,11 +35,11 @@ use std::thread::Threads;
 
 /// Runs the command that the arguments name and returns the status.
 ///
-/// The first argument is the program's name. `stress` runs the first queue of its name on the shelf, and reads nothing.
-/// The other commands read their input whole. Everything is computed before the first byte is written, and the writer
-/// is flushed once, at the end. Then standard error says why, if the status is 2 or 3. Whether that can be written
-/// doesn't matter. Two commands wait: `check` for the threads of its searches, `stress` for these and for its workers,
-/// and so for the queue.
+/// The first argument is the program's name. `stress` runs the first queue of its name on the shelf, and reads
+/// nothing. The other commands read their input whole. Everything is computed before the first byte is written, and
+/// the writer is flushed once, at the end. Then standard error says why, if the status is 2 or 3. Whether that can be
+/// written doesn't matter. Two commands wait: `check` for the threads of its searches, `stress` for these and for its
+/// workers, and so for the queue.
 pub fn run_command<'a, R, T, S, W, E>(
     rt: &R,
     args: &'a [T],
@@ -56,21 +57,26 @@ where
     E: TextSink,
     requires fresh { W.has_refused writer.old ≡ false }
 
-    // The arguments are a command that reads: the answer to some input that the source may give is printed, the known one
-    // if the source is known; or that memory ran out for the arguments.
-    ensures reads { (request : Request) → faults_in (map T.text args.entry.now) ≡ [] → request_in (map T.text args.entry.now) ≡ Some request
-        → OfInput (S.ahead reader) (λ input. PrintsOneOf (is_quiet_in (map T.text args.entry.now)) (AnswersOrNoMemory (AnswersOf request) input)
+    // The arguments are a command that reads: the answer to some input that the source may give is printed, the known
+    // one if the source is known; or that memory ran out for the arguments.
+    ensures reads { (request : Request) → faults_in (map T.text args.entry.now) ≡ []
+        → request_in (map T.text args.entry.now) ≡ Some request
+        → OfInput (S.ahead reader)
+        (λ input. PrintsOneOf (is_quiet_in (map T.text args.entry.now)) (AnswersOrNoMemory (AnswersOf request) input)
         (W.contents writer.old) (W.contents writer.new) (W.has_refused writer.new) result) }
 
     // The arguments are `stress`: the answer of a run on the shelf is printed.
-    ensures stresses { (settings : Settings) → faults_in (map T.text args.entry.now) ≡ [] → request_in (map T.text args.entry.now) ≡ Some (stress settings)
+    ensures stresses { (settings : Settings) → faults_in (map T.text args.entry.now) ≡ []
+        → request_in (map T.text args.entry.now) ≡ Some (stress settings)
         → PrintsOneOf (is_quiet_in (map T.text args.entry.now))
-        (AnswersOrNoMemory (Stresses (λ s. s.name.now) (λ s. may s.queue) (λ s. may_preload s.queue) shelf.now) settings)
+        (AnswersOrNoMemory (Stresses (λ s. s.name.now) (λ s. may s.queue)
+        (λ s. may_preload s.queue) shelf.now) settings)
         (W.contents writer.old) (W.contents writer.new) (W.has_refused writer.new) result }
 
     // Other arguments: a text about the use of the program is printed.
     ensures usage { (faults_in (map T.text args.entry.now) ≢ [])
-        → ExplainsUse (faults_in (map T.text args.entry.now)) (W.contents writer.old) (W.contents writer.new) (W.has_refused writer.new) result }
+        → ExplainsUse (faults_in (map T.text args.entry.now)) (W.contents writer.old) (W.contents writer.new)
+        (W.has_refused writer.new) result }
 
     // The writer is written to and then flushed once, or it refuses and is asked for nothing more.
     ensures asked { WritesAndFlushes W.transition (W.has_refused writer.new) writer.old writer.new }
@@ -119,8 +125,8 @@ pub struct Exit<O, E> {
 
 /// Runs the command over a reader and writers of std, as [`run_command`] does.
 ///
-/// The answer is that to the bytes of the reader, as far as std says them, or to a prefix of them if a read fails. If the
-/// reader of the output has left, standard error gets nothing.
+/// The answer is that to the bytes of the reader, as far as std says them, or to a prefix of them if a read fails. If
+/// the reader of the output has left, standard error gets nothing.
 pub fn run_over<'a, R, T, I, O, E>(
     rt: &R,
     args: &'a [T],
@@ -138,26 +144,33 @@ where
     E: Write + Drop,
 
     // The answer to the input is printed, or that memory ran out for the arguments.
-    ensures reads { (request : Request) → faults_in (map T.text args.entry.now) ≡ [] → request_in (map T.text args.entry.now) ≡ Some request
-        → OfInput (known_of (I.remaining input)) (λ read. Behind (λ new refused. PrintsOneOf (is_quiet_in (map T.text args.entry.now))
-        (AnswersOrNoMemory (AnswersOf request) read) (O.contents output) new refused result.status) (O.contents result.output)) }
+    ensures reads { (request : Request) → faults_in (map T.text args.entry.now) ≡ []
+        → request_in (map T.text args.entry.now) ≡ Some request
+        → OfInput (known_of (I.remaining input))
+        (λ read. Behind (λ new refused. PrintsOneOf (is_quiet_in (map T.text args.entry.now))
+        (AnswersOrNoMemory (AnswersOf request) read) (O.contents output) new refused result.status)
+        (O.contents result.output)) }
 
     // The answer of a run on the shelf is printed.
-    ensures stresses { (settings : Settings) → faults_in (map T.text args.entry.now) ≡ [] → request_in (map T.text args.entry.now) ≡ Some (stress settings)
+    ensures stresses { (settings : Settings) → faults_in (map T.text args.entry.now) ≡ []
+        → request_in (map T.text args.entry.now) ≡ Some (stress settings)
         → Behind (λ new refused. PrintsOneOf (is_quiet_in (map T.text args.entry.now))
-        (AnswersOrNoMemory (Stresses (λ s. s.name.now) (λ s. may s.queue) (λ s. may_preload s.queue) shelf.now) settings)
+        (AnswersOrNoMemory (Stresses (λ s. s.name.now) (λ s. may s.queue)
+        (λ s. may_preload s.queue) shelf.now) settings)
         (O.contents output) new refused result.status) (O.contents result.output) }
 
     // Other arguments: a text about the use of the program is printed.
     ensures usage { (faults_in (map T.text args.entry.now) ≢ [])
-        → Behind (λ new refused. ExplainsUse (faults_in (map T.text args.entry.now)) (O.contents output) new refused result.status)
+        → Behind (λ new refused. ExplainsUse (faults_in (map T.text args.entry.now))
+        (O.contents output) new refused result.status)
         (O.contents result.output) }
 
     // With status 0 or 1 standard error gets nothing, unless a terminal is there.
     ensures silent { terminals.input ≡ false → terminals.output ≡ false → result.status ≤ 1 → result.errors ≡ errors }
 
     // With status 2 or 3 of a command it gets a message of one or two lines, or a prefix of one.
-    ensures said { faults_in (map T.text args.entry.now) ≡ [] → terminals.input ≡ false → terminals.output ≡ false → 2 ≤ result.status
+    ensures said { faults_in (map T.text args.entry.now) ≡ [] → terminals.input ≡ false → terminals.output ≡ false
+        → 2 ≤ result.status
         → (refused : Bool) × SaysMessage (E.contents errors) (E.contents result.errors) refused }
 {
     let is_broken = AtomicBool::new(false);
@@ -193,7 +206,8 @@ where
     requires { IsInRange (request_of task) }
     ensures reads { OfInput (S.ahead reader) (λ input. AnswersOf (request_of task.entry) input (answer_of result)) }
     ensures stresses { (settings : Settings) → request_of task.entry ≡ stress settings
-        → Stresses (λ s. s.name.now) (λ s. may s.queue) (λ s. may_preload s.queue) shelf.now settings (answer_of result) }
+        → Stresses (λ s. s.name.now) (λ s. may s.queue) (λ s. may_preload s.queue) shelf.now settings
+        (answer_of result) }
     ensures places { NamesPlaces result }
 {
     match task {
@@ -212,7 +226,8 @@ where
 /// Writes the usage error, or the help that was asked for.
 fn explain<W: TextSink>(alloc: Global, error: &Error, writer: &mut W) -> u8
     requires fresh { W.has_refused writer.old ≡ false }
-    ensures printed { Explains (kind_of error.now) (W.contents writer.old) (W.contents writer.new) (W.has_refused writer.new) result }
+    ensures printed { Explains (kind_of error.now) (W.contents writer.old) (W.contents writer.new)
+        (W.has_refused writer.new) result }
     ensures asked { WritesAndFlushes W.transition (W.has_refused writer.new) writer.old writer.new }
     ensures passed_on { W.has_refused writer.new ≡ false → W.holds_back writer.new ≡ false }
 {

@@ -6,7 +6,8 @@ ghost use Rattle.history_merge.specs.Initial.{IsCompleteFrom};
 ghost use Rattle.history_text.specs.Histories.{HasHistoryText};
 ghost use Rattle.history_text.specs.Versions.{HaveValueLines};
 ghost use Rattle.commands.specs.Answers.{memory_fault};
-ghost use Rattle.commands.specs.Completing.{Completes, CountsPending, IsCompletable, IsFaultOfPendingInput, IsPendingOf, LacksCompletion};
+ghost use Rattle.commands.specs.Completing.{Completes, CountsPending, IsCompletable, IsFaultOfPendingInput};
+ghost use Rattle.commands.specs.Completing.{IsPendingOf, LacksCompletion};
 ghost use Rattle.commands.specs.Judging.{AnswersFor, AnswersOrNoMemory};
 ghost use Rattle.commands.specs.Outcomes.{answer_of, answer_of_fault, fault_of_completion, NamesPlaces};
 ghost use Rattle.text_lines.specs.Input.{OfInput};
@@ -21,7 +22,9 @@ use std::alloc::{AllocError, Global};
 
 /// Answers `complete` for the text of a reader. With `takes_cut` the text may be cut off.
 pub(crate) fn complete<S: TextSource + Drop>(alloc: Global, reader: S, takes_cut: bool) -> Outcome
-    ensures found { OfInput (S.ahead reader) (λ input. AnswersFor (IsPendingOf takes_cut) (IsFaultOfPendingInput takes_cut) Completes input (answer_of result)) }
+    ensures found { OfInput (S.ahead reader)
+        (λ input. AnswersFor (IsPendingOf takes_cut) (IsFaultOfPendingInput takes_cut) Completes input
+        (answer_of result)) }
     ensures places { NamesPlaces result }
 {
     let text = pending_of(alloc, reader, takes_cut)?;
@@ -49,7 +52,8 @@ pub(crate) fn completed(
     ensures complete { IfOk result (λ made. IsCompleteFrom text.initial made.2.items) }
     ensures few { IfOk result (λ made. length made.2.items ≤ MAX_EVENTS) }
     ensures completable { OnOk result (IsCompletable text) }
-    ensures fault { IfErr result (λ fault. LacksCompletion text (answer_of_fault fault) ⊎ (answer_of_fault fault ≡ memory_fault)) }
+    ensures fault { IfErr result (λ fault. LacksCompletion text (answer_of_fault fault)
+        ⊎ (answer_of_fault fault ≡ memory_fault)) }
 {
     let PendingText {
         version,

@@ -9,7 +9,8 @@ ghost use Rattle.history_text.specs.Histories.{HasHistoryText};
 ghost use Rattle.history_text.specs.Versions.{HaveValueLines, said_in};
 ghost use Rattle.commands.specs.Answers.{refused_orders, refused_size};
 ghost use Rattle.commands.specs.Conditions.{IsTrueUnder};
-ghost use Rattle.commands.specs.Drawing.{Draws, DrawsAlone, DrawsClaim, DrawsDecided, DrawsPart, DrawsPending, DrawsSound};
+ghost use Rattle.commands.specs.Drawing.{Draws, DrawsAlone, DrawsClaim, DrawsDecided, DrawsPart, DrawsPending};
+ghost use Rattle.commands.specs.Drawing.{DrawsSound};
 ghost use Rattle.commands.specs.Drawing.{IsOneOrder, picture_in, strict};
 ghost use Rattle.conditions.specs.Conditions.{without_empties};
 ghost use Rattle.verdicts.specs.Selection.{ArePartOf, contents_of};
@@ -35,7 +36,8 @@ use verdicts::{Claimed, claim};
 
 /// Answers `draw` for the text of a reader.
 pub(crate) fn draw<S: TextSource + Drop>(alloc: Global, reader: S, options: DrawOptions) -> Outcome
-    ensures found { OfInput (S.ahead reader) (λ input. AnswersFor IsDrawableOf IsFaultOfDrawableInput (Draws options) input (answer_of result)) }
+    ensures found { OfInput (S.ahead reader)
+        (λ input. AnswersFor IsDrawableOf IsFaultOfDrawableInput (Draws options) input (answer_of result)) }
     ensures places { NamesPlaces result }
 {
     let (text, claimed) = drawable_of(alloc, reader)?;
@@ -53,7 +55,8 @@ fn draw_claimed(
     options: DrawOptions,
 ) -> Outcome
     requires lines { HaveValueLines text.now.version text.now.initial × HasHistoryText text.now.events }
-    ensures found { AnswersOrNoMemory (DrawsClaim options) (claim_on (history_in text.now) claimed.now) (answer_of result) }
+    ensures found { AnswersOrNoMemory (DrawsClaim options) (claim_on (history_in text.now) claimed.now)
+        (answer_of result) }
     ensures places { NamesPlaces result }
 {
     let whole = history_in(alloc, text)?;
@@ -93,7 +96,8 @@ fn draw_pending(alloc: Global, text: PendingText, options: DrawOptions) -> Outco
 /// Returns the history, without its empty dequeues if these promise nothing.
 fn drawn_part(alloc: Global, whole: History, is_weakly_empty: bool) -> Result<History, AllocError>
     ensures whole { is_weakly_empty ≡ false → IfOk result (λ part. part ≡ whole) }
-    ensures selected { is_weakly_empty ≡ true → IfOk result (λ part. contents_of part ≡ without_empties (contents_of whole)) }
+    ensures selected { is_weakly_empty ≡ true
+        → IfOk result (λ part. contents_of part ≡ without_empties (contents_of whole)) }
     ensures events { is_weakly_empty ≡ true → IfOk result (λ part. ArePartOf whole.events part.events) }
     ensures complete { IfOk result (λ part. IsSound part) }
 {
@@ -112,7 +116,8 @@ fn draw_whole(
     added_from: Option<u64>,
     options: DrawOptions,
 ) -> Outcome
-    ensures found { (version : Version) → AnswersOrNoMemory (λ text. DrawsPart options.condition.is_weakly_empty text (DrawsDecided options added_from))
+    ensures found { (version : Version) → AnswersOrNoMemory
+        (λ text. DrawsPart options.condition.is_weakly_empty text (DrawsDecided options added_from))
         (said_in version whole) (answer_of result) }
     ensures places { NamesPlaces result }
 {
@@ -133,7 +138,8 @@ fn strict(condition: Condition) -> Condition
 /// Refuses a claim with a linearization for each producer, which one picture can't show.
 fn check_one_order(claimed: &Claimed, is_local: bool) -> Result<(), Fault>
     ensures one { OnOk result (IsOneOrder is_local claimed.now) }
-    ensures several { IfErr result (λ fault. (answer_of_fault fault ≡ refused_orders) × (¬ (IsOneOrder is_local claimed.now))) }
+    ensures several { IfErr result (λ fault. (answer_of_fault fault ≡ refused_orders)
+        × (¬ (IsOneOrder is_local claimed.now))) }
 {
     match claimed {
         Claimed::Yes(_) if is_local => Err(Fault::Orders),
@@ -160,7 +166,8 @@ fn drawn_if_few(
     ensures few { IfOk result (λ drawn. length drawn.items ≤ MOST_DRAWN) }
     ensures few_lines { IfOk result (λ drawn. count_of_lines claimed.now ≤ MOST_DRAWN) }
     ensures large { (version : Version) (added : Option ℕ) → IfErr result (λ fault.
-        AnswersOrNoMemory (DrawsSound options added) (claim_on (said_in version history.now) claimed.now) (answer_of_fault fault)) }
+        AnswersOrNoMemory (DrawsSound options added) (claim_on (said_in version history.now) claimed.now)
+        (answer_of_fault fault)) }
 {
     if count_of_lines(claimed) > MOST_DRAWN {
         return Err(Fault::Size);
@@ -176,7 +183,8 @@ fn drawn_if_few(
 fn draw_claim(alloc: Global, history: &History, claimed: &Claimed, options: DrawOptions) -> Outcome
     requires complete { IsSound history.now }
     ensures found { (version : Version)
-        → AnswersOrNoMemory (DrawsSound options None) (claim_on (said_in version history.now) claimed.now) (answer_of result) }
+        → AnswersOrNoMemory (DrawsSound options None) (claim_on (said_in version history.now) claimed.now)
+        (answer_of result) }
     ensures places { NamesPlaces result }
 {
     let drawn = drawn_if_few(alloc, history, claimed, options)?;
@@ -230,7 +238,8 @@ fn draw_evidence(
     requires few { length drawn.items ≤ MOST_DRAWN }
     requires evidence { IsTrueUnder (strict options.condition) history.now claimed.now }
     ensures found { (version : Version)
-        → AnswersOrNoMemory (DrawsSound options added_from) (claim_on (said_in version history.now) claimed.now) (answer_of result) }
+        → AnswersOrNoMemory (DrawsSound options added_from) (claim_on (said_in version history.now) claimed.now)
+        (answer_of result) }
     ensures places { NamesPlaces result }
 {
     check_one_order(claimed, options.condition.is_local)?;

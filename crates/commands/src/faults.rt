@@ -42,7 +42,8 @@ impl Fault {
 
     /// Returns whether the input or the arguments are refused; else the command failed.
     pub fn is_refusal(self) -> bool
-        ensures line { answer_text (answer_of_fault self) ≡ line (beginning result ++ named (name_of self) (place_in self)) }
+        ensures line { answer_text (answer_of_fault self)
+            ≡ line (beginning result ++ named (name_of self) (place_in self)) }
         ensures status { answer_status (answer_of_fault self) ≡ fault_status result }
     {
         match self {
@@ -87,7 +88,8 @@ fn push_fault(fault: Fault, kept: &mut WriteBuffer)
 
 /// Writes the line of a fault: `REFUSED` or `FAULT`, its name, and the place, line, ticket or thread that it names.
 pub(crate) fn write_fault<W: TextSink>(fault: Fault, writer: &mut W) -> Result<(), WriteFault>
-    ensures { Writes W.contents W.has_refused W.transition (answer_text (answer_of_fault fault)) writer.old writer.new result }
+    ensures { Writes W.contents W.has_refused W.transition
+        (answer_text (answer_of_fault fault)) writer.old writer.new result }
 {
     let mut kept = WriteBuffer::new();
     push_fault(fault, &mut kept);

@@ -28,7 +28,8 @@ pub(crate) fn check<R, S>(rt: &R, alloc: Global, reader: S, condition: Condition
 where
     R: Threads + Sync,
     S: TextSource + Drop,
-    ensures found { OfInput (S.ahead reader) (λ input. AnswersFor IsHistoryOf IsFaultOfHistoryInput (Judges condition) input (answer_of result)) }
+    ensures found { OfInput (S.ahead reader)
+        (λ input. AnswersFor IsHistoryOf IsFaultOfHistoryInput (Judges condition) input (answer_of result)) }
     ensures places { NamesPlaces result }
 {
     let (_version, history) = given_history(alloc, reader)?;
@@ -39,7 +40,8 @@ where
 
 /// Answers `convert` for the text of a reader.
 pub(crate) fn convert<S: TextSource + Drop>(alloc: Global, reader: S) -> Outcome
-    ensures found { OfInput (S.ahead reader) (λ input. AnswersFor IsHistoryOf IsFaultOfHistoryInput Converts input (answer_of result)) }
+    ensures found { OfInput (S.ahead reader)
+        (λ input. AnswersFor IsHistoryOf IsFaultOfHistoryInput Converts input (answer_of result)) }
     ensures places { NamesPlaces result }
 {
     let (_version, history) = given_history(alloc, reader)?;
@@ -48,7 +50,8 @@ pub(crate) fn convert<S: TextSource + Drop>(alloc: Global, reader: S) -> Outcome
 
 /// Answers `stats` for the text of a reader: the statistics, or the dequeues that overtook values.
 pub(crate) fn stats<S: TextSource + Drop>(alloc: Global, reader: S, overtakes: bool) -> Outcome
-    ensures found { OfInput (S.ahead reader) (λ input. AnswersFor IsHistoryOf IsFaultOfHistoryInput (Counts overtakes) input (answer_of result)) }
+    ensures found { OfInput (S.ahead reader)
+        (λ input. AnswersFor IsHistoryOf IsFaultOfHistoryInput (Counts overtakes) input (answer_of result)) }
     ensures places { NamesPlaces result }
 {
     let (_version, history) = given_history(alloc, reader)?;
@@ -61,7 +64,8 @@ pub(crate) fn stats<S: TextSource + Drop>(alloc: Global, reader: S, overtakes: b
 /// Lists the dequeues that overtook values.
 fn list_overtakings(alloc: Global, history: &History) -> Outcome
     requires { IsSound history.now }
-    ensures found { (version : Version) → AnswersOrNoMemory (Counts true) (said_in version history.now) (answer_of result) }
+    ensures found { (version : Version) → AnswersOrNoMemory (Counts true) (said_in version history.now)
+        (answer_of result) }
     ensures places { NamesPlaces result }
 {
     let overtakings = overtakings_of(alloc, history)?;
@@ -71,7 +75,8 @@ fn list_overtakings(alloc: Global, history: &History) -> Outcome
 /// Counts the statistics of the history.
 fn count(alloc: Global, history: &History) -> Outcome
     requires { IsSound history.now }
-    ensures found { (version : Version) → AnswersOrNoMemory (Counts false) (said_in version history.now) (answer_of result) }
+    ensures found { (version : Version) → AnswersOrNoMemory (Counts false) (said_in version history.now)
+        (answer_of result) }
     ensures places { NamesPlaces result }
 {
     let statistics = statistics_of(alloc, history)?;
@@ -84,7 +89,8 @@ pub(crate) fn verify<S: TextSource + Drop>(
     reader: S,
     condition: Condition,
 ) -> Outcome
-    ensures found { OfInput (S.ahead reader) (λ input. AnswersFor IsClaimOf IsFaultOfClaimInput (Verifies condition) input (answer_of result)) }
+    ensures found { OfInput (S.ahead reader)
+        (λ input. AnswersFor IsClaimOf IsFaultOfClaimInput (Verifies condition) input (answer_of result)) }
     ensures places { NamesPlaces result }
 {
     let (gathered, claimed) = claimed_of(alloc, reader)?;
@@ -100,7 +106,8 @@ fn verify_claim(
     condition: Condition,
 ) -> Outcome
     requires complete { IsSound history.now }
-    ensures found { (version : Version) → AnswersOrNoMemory (Verifies condition) (record { text = said_in version history.now; claimed = claimed.now }) (answer_of result) }
+    ensures found { (version : Version) → AnswersOrNoMemory (Verifies condition)
+        (record { text = said_in version history.now; claimed = claimed.now }) (answer_of result) }
     ensures places { NamesPlaces result }
 {
     let valid = verify_under(alloc, history, claimed, condition)?;

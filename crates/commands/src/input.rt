@@ -9,7 +9,8 @@ ghost use Rattle.history_text.specs.Histories.{HasHistoryText};
 ghost use Rattle.commands.specs.Completing.{IsFaultOfPendingInput, IsPendingOf};
 ghost use Rattle.history_text.specs.Versions.{HasText, HaveValueLines, HistoryText, IsReadAs, said_in};
 ghost use Rattle.history_text.specs.Schedules.{IsSetting};
-ghost use Rattle.commands.specs.Inputs.{IsHistoryOf, IsFaultOfHistoryInput, IsScheduleOf, IsFaultOfScheduleInput, IsClaimOf, IsFaultOfClaimInput};
+ghost use Rattle.commands.specs.Inputs.{IsHistoryOf, IsFaultOfHistoryInput, IsScheduleOf, IsFaultOfScheduleInput};
+ghost use Rattle.commands.specs.Inputs.{IsClaimOf, IsFaultOfClaimInput};
 ghost use Rattle.commands.specs.Inputs.{IsDrawableOf, IsFaultOfDrawableInput, drawable, history_in};
 ghost use Rattle.commands.specs.Judging.{IsFaulty, AnswersFor, AnswersOrNoMemory, said_by};
 ghost use Rattle.commands.specs.Answers.{answer_of_history_fault};
@@ -31,7 +32,8 @@ pub(crate) type Gathered = (Version, HistoryBuilder);
 
 /// Reads the one text of a history, of either version.
 fn gathered_of<S: TextSource + Drop>(alloc: Global, reader: S) -> Result<Gathered, TextFault>
-    ensures text { IfOk result (λ read. (text : HistoryText) × HasText text × IsReadAs text read.0 read.1 × OfInput (S.ahead reader)
+    ensures text { IfOk result (λ read. (text : HistoryText) × HasText text × IsReadAs text read.0 read.1
+        × OfInput (S.ahead reader)
         (λ input. IsHistoryOf input text)) }
     ensures fault { IfErr result (λ fault. OfInput (S.ahead reader) (λ input. IsFaultOfHistoryInput input fault)) }
 {
@@ -49,7 +51,8 @@ pub(crate) fn pending_of<S: TextSource + Drop>(
 ) -> Result<PendingText, TextFault>
     ensures text { IfOk result (λ text. OfInput (S.ahead reader) (λ input. IsPendingOf takes_cut input text)) }
     ensures lines { IfOk result (λ text. HaveValueLines text.version text.initial × HasHistoryText text.events) }
-    ensures fault { IfErr result (λ fault. OfInput (S.ahead reader) (λ input. IsFaultOfPendingInput takes_cut input fault)) }
+    ensures fault { IfErr result (λ fault. OfInput (S.ahead reader)
+        (λ input. IsFaultOfPendingInput takes_cut input fault)) }
 {
     let mut texts = TextReader::new(reader);
     let (text, is_whole) = read_pending(alloc, &mut texts, takes_cut)?;
@@ -64,7 +67,8 @@ pub(crate) fn claimed_of<S: TextSource + Drop>(
     alloc: Global,
     reader: S,
 ) -> Result<(Gathered, Claimed), TextFault>
-    ensures claim { IfOk result (λ read. (text : HistoryText) × HasText text × IsReadAs text read.0.0 read.0.1 × OfInput (S.ahead reader)
+    ensures claim { IfOk result (λ read. (text : HistoryText) × HasText text × IsReadAs text read.0.0 read.0.1
+        × OfInput (S.ahead reader)
         (λ input. IsClaimOf input (record { text = text; claimed = read.1 }))) }
     ensures fault { IfErr result (λ fault. OfInput (S.ahead reader) (λ input. IsFaultOfClaimInput input fault)) }
 {
@@ -80,7 +84,8 @@ pub(crate) fn drawable_of<S: TextSource + Drop>(
     alloc: Global,
     reader: S,
 ) -> Result<(PendingText, Option<Claimed>), TextFault>
-    ensures drawable { IfOk result (λ read. OfInput (S.ahead reader) (λ input. IsDrawableOf input (drawable read.0 read.1))) }
+    ensures drawable { IfOk result (λ read. OfInput (S.ahead reader)
+        (λ input. IsDrawableOf input (drawable read.0 read.1))) }
     ensures lines { IfOk result (λ read. HaveValueLines read.0.version read.0.initial × HasHistoryText read.0.events) }
     ensures fault { IfErr result (λ fault. OfInput (S.ahead reader) (λ input. IsFaultOfDrawableInput input fault)) }
 {
@@ -102,11 +107,13 @@ pub(crate) fn given_history<S: TextSource + Drop>(
     alloc: Global,
     reader: S,
 ) -> Result<(Version, History), Fault>
-    ensures history { IfOk result (λ read. OfInput (S.ahead reader) (λ input. IsHistoryOf input (said_in read.0 read.1))) }
+    ensures history { IfOk result (λ read. OfInput (S.ahead reader)
+        (λ input. IsHistoryOf input (said_in read.0 read.1))) }
     ensures has { IfOk result (λ read. HasText (said_in read.0 read.1)) }
     ensures complete { IfOk result (λ read. IsCompleteFrom read.1.initial read.1.events) }
     ensures fault { IfErr result (λ fault. OfInput (S.ahead reader) (λ input.
-        AnswersFor IsHistoryOf IsFaultOfHistoryInput (λ text. IsFaulty (said_by text)) input (answer_of_fault fault))) }
+        AnswersFor IsHistoryOf IsFaultOfHistoryInput (λ text. IsFaulty (said_by text)) input
+        (answer_of_fault fault))) }
 {
     let gathered = gathered_of(alloc, reader)?;
     history_of(gathered)
@@ -141,7 +148,8 @@ fn gathered_from(alloc: Global, text: &PendingText) -> Result<Gathered, AllocErr
 pub(crate) fn history_in(alloc: Global, text: &PendingText) -> Result<History, Fault>
     requires lines { HaveValueLines text.now.version text.now.initial × HasHistoryText text.now.events }
     ensures history { IfOk result (λ history. said_in text.now.version history ≡ history_in text.now) }
-    ensures fault { IfErr result (λ fault. AnswersOrNoMemory IsFaulty (said_by (history_in text.now)) (answer_of_fault fault)) }
+    ensures fault { IfErr result (λ fault. AnswersOrNoMemory IsFaulty (said_by (history_in text.now))
+        (answer_of_fault fault)) }
     ensures clash { IfErr result (NamesClash text.now.initial text.now.events) }
 {
     let gathered = gathered_from(alloc, text)?;
@@ -151,11 +159,13 @@ pub(crate) fn history_in(alloc: Global, text: &PendingText) -> Result<History, F
 
 /// Finishes the history of a text, and returns it with the version of the text.
 pub(crate) fn history_of(gathered: Gathered) -> Result<(Version, History), Fault>
-    ensures history { (text : HistoryText) → HasText text → IsReadAs text gathered.0 gathered.1 → IfOk result (λ read. said_in read.0 read.1 ≡ text) }
+    ensures history { (text : HistoryText) → HasText text → IsReadAs text gathered.0 gathered.1
+        → IfOk result (λ read. said_in read.0 read.1 ≡ text) }
     ensures complete { IfOk result (λ read. IsCompleteFrom read.1.initial read.1.events) }
     ensures fault { (text : HistoryText) → HasText text → IsReadAs text gathered.0 gathered.1
         → IfErr result (λ fault. AnswersOrNoMemory IsFaulty (said_by text) (answer_of_fault fault)) }
-    ensures clash { (text : HistoryText) → HasText text → IsReadAs text gathered.0 gathered.1 → IfErr result (NamesClash text.initial text.events) }
+    ensures clash { (text : HistoryText) → HasText text → IsReadAs text gathered.0 gathered.1
+        → IfErr result (NamesClash text.initial text.events) }
 {
     let (version, builder) = gathered;
     let clash = builder.clash();
@@ -168,7 +178,8 @@ pub(crate) fn history_of(gathered: Gathered) -> Result<(Version, History), Fault
 /// Adds the clash to a fault that it explains.
 fn incomplete(fault: HistoryFault, clash: Option<Clash>) -> Fault
     ensures fault { answer_of_fault result ≡ answer_of_history_fault fault }
-    ensures clash { (initial : List ℕ) (events : List Event) → IfSome clash (IsClash initial events) → NamesClash initial events result }
+    ensures clash { (initial : List ℕ) (events : List Event) → IfSome clash (IsClash initial events)
+        → NamesClash initial events result }
 {
     let clash = match clash {
         Some(found) if found.fault() == fault => Some(found),

@@ -15,9 +15,12 @@ ghost use Rattle.command_words.specs.Commands.{check, shrink, verify, draw, conv
 ghost use Rattle.command_words.specs.Options.{Settings};
 ghost use Rattle.commands.specs.Answers.{Reply, ShowsNoViolation, played};
 ghost use Rattle.commands.specs.Evidence.{CompletedIsDecided, CompletedIsHistory, CompletedIsKept};
-ghost use Rattle.commands.specs.Evidence.{CheckedIsValid, CheckedIsValidUnder, RefutedIsValid, ConvertedIsChecked, ConvertedIsCounted, ConvertedIsKept, ConvertedIsSameHistory};
-ghost use Rattle.commands.specs.Evidence.{ConvertedIsVerified, DrawnAsChecked, HasOneAnswer, ShrunkIsChecked, ShrunkIsValid};
-ghost use Rattle.commands.specs.Evidence.{SimulatedIsChecked, SimulatedIsValid, StressedIsChecked, StressedIsValid, StressedIsValidUnder};
+ghost use Rattle.commands.specs.Evidence.{CheckedIsValid, CheckedIsValidUnder, RefutedIsValid, ConvertedIsChecked};
+ghost use Rattle.commands.specs.Evidence.{ConvertedIsCounted, ConvertedIsKept, ConvertedIsSameHistory};
+ghost use Rattle.commands.specs.Evidence.{ConvertedIsVerified, DrawnAsChecked, HasOneAnswer, ShrunkIsChecked};
+ghost use Rattle.commands.specs.Evidence.{ShrunkIsValid};
+ghost use Rattle.commands.specs.Evidence.{SimulatedIsChecked, SimulatedIsValid, StressedIsChecked, StressedIsValid};
+ghost use Rattle.commands.specs.Evidence.{StressedIsValidUnder};
 ghost use Rattle.commands.specs.Judging.{SimulatesIn};
 ghost use Rattle.commands.specs.Stressing.{IsProvedName, StressesUnshelved};
 
@@ -25,12 +28,14 @@ ghost use Rattle.commands.specs.Stressing.{IsProvedName, StressesUnshelved};
 #[tactic(auto, using(crate::proofs::OneAnswer::honest_gets_a_yes))]
 pub fn honest_schedules_get_a_yes()
     ensures { (setting : Setting) (schedule : List Attempt) (answer : Reply)
-        → setting.threads ≤ MAX_THREADS → IsHonest setting schedule → IsDone setting schedule → SimulatesIn setting schedule answer
-        → (events : List Event) × (order : List Operation) × (answer ≡ played (rejections setting schedule) events (Yes order)) }
+        → setting.threads ≤ MAX_THREADS → IsHonest setting schedule → IsDone setting schedule
+        → SimulatesIn setting schedule answer
+        → (events : List Event) × (order : List Operation)
+        × (answer ≡ played (rejections setting schedule) events (Yes order)) }
 {}
 
-/// An input has one answer: two answers to one input that the contract of a reading command allows are the same, or one
-/// of them says that memory ran out.
+/// An input has one answer: two answers to one input that the contract of a reading command allows are the same, or
+/// one of them says that memory ran out.
 pub fn one_answer()
     ensures check { (condition : Condition) → HasOneAnswer (check condition) }
     ensures shrink { (condition : Condition) → HasOneAnswer (shrink condition) }
@@ -45,7 +50,8 @@ pub fn one_answer()
 /// No false alarm of threads: if no queue of the shelf has the name of a proved queue, the answer of `stress` for that
 /// name shows no violation.
 pub fn runs_of_proved_queues_are_linearizable()
-    ensures { (settings : Settings) (answer : Reply) → IsProvedName settings.queue → StressesUnshelved settings answer → ShowsNoViolation answer }
+    ensures { (settings : Settings) (answer : Reply) → IsProvedName settings.queue → StressesUnshelved settings answer
+        → ShowsNoViolation answer }
 {}
 
 /// Every answer is evidence. `verify` answers an input, followed by the verdict that `check` writes of it, with
@@ -55,9 +61,9 @@ pub fn runs_of_proved_queues_are_linearizable()
 /// verdict. `draw` decides a history as `check` does: it answers a history on its own as it answers the history
 /// followed by the verdict of `check`. Or memory runs out.
 ///
-/// What `stress` and `sim` write is the text of a history and of its verdict, if the numbers of the history are in the ranges of
-/// the text, as those of Rust's types and of a schedule are: `check` answers the history with that very verdict, and `verify`
-/// answers both with `VALID`.
+/// What `stress` and `sim` write is the text of a history and of its verdict, if the numbers of the history are in the
+/// ranges of the text, as those of Rust's types and of a schedule are: `check` answers the history with that very
+/// verdict, and `verify` answers both with `VALID`.
 pub fn every_answer_is_evidence()
     ensures checked { CheckedIsValid }
     ensures checked_under { (condition : Condition) → CheckedIsValidUnder condition }
@@ -72,9 +78,9 @@ pub fn every_answer_is_evidence()
     ensures simulated { SimulatedIsValid }
 {}
 
-/// What `complete` writes is the text of a complete history, which every other command reads. `check` answers it with a
-/// `YES` if and only if some completion of the history that was read has a linearization. A complete history comes out
-/// as it is. Or memory runs out.
+/// What `complete` writes is the text of a complete history, which every other command reads. `check` answers it with
+/// a `YES` if and only if some completion of the history that was read has a linearization. A complete history comes
+/// out as it is. Or memory runs out.
 pub fn completion_decides()
     ensures history { (takes_cut : Bool) → CompletedIsHistory takes_cut }
     ensures decided { (takes_cut : Bool) → CompletedIsDecided takes_cut }

@@ -4,7 +4,8 @@ ghost use Rattle.std.specs.Io.KnownBytes.{Appends};
 ghost use Rattle.history_merge.specs.declared.operation.Operation.{Operation};
 ghost use Rattle.claims.specs.Claiming.{claim_of};
 ghost use Rattle.text_lines.specs.Writing.{AppendsFront, IsWritten, IsRefused, Writes};
-ghost use Rattle.commands.specs.Answers.{answer_text, answer_status, claim_status, memory_fault, said_text, verdict_head};
+ghost use Rattle.commands.specs.Answers.{answer_text, answer_status, claim_status, memory_fault, said_text};
+ghost use Rattle.commands.specs.Answers.{verdict_head};
 ghost use Rattle.commands.specs.Outcomes.{answer_of, NamesPlaces};
 ghost use Rattle.commands.specs.Running.{Prints, PrintsAnswer, PrintsSaid, WritesAndFlushes};
 
@@ -24,7 +25,8 @@ pub(crate) fn write_outcome<W: TextSink>(
     writer: &mut W,
 ) -> Result<(), WriteFault>
     requires { NamesPlaces outcome.now }
-    ensures { Writes W.contents W.has_refused W.transition (answer_text (answer_of outcome.now)) writer.old writer.new result }
+    ensures { Writes W.contents W.has_refused W.transition
+        (answer_text (answer_of outcome.now)) writer.old writer.new result }
 {
     match outcome {
         Ok(Report::Judged(history, verdict)) => return write_verdict(history, verdict, writer),
@@ -55,7 +57,8 @@ pub(crate) fn write_outcome<W: TextSink>(
 }
 
 fn status_of_verdict(verdict: &Verdict) -> u8
-    ensures { (initial : List ℕ) (operations : List Operation) → result ≡ claim_status (claim_of initial operations verdict.now) }
+    ensures { (initial : List ℕ) (operations : List Operation)
+        → result ≡ claim_status (claim_of initial operations verdict.now) }
 {
     match verdict {
         Verdict::Yes(_) => return 0,
@@ -82,10 +85,12 @@ pub fn status_of(outcome: &Outcome) -> u8
 // Flushes the writer, and returns this status if writing and flushing succeeded, else 3.
 fn flush_written<W: TextSink>(written: Result<(), WriteFault>, status: u8, writer: &mut W) -> u8
     requires { W.has_refused writer.old ≡ is_err written }
-    ensures printed { (before : Option (List ℕ)) (text : List ℕ) → OnOk written (Appends before (W.contents writer.old) text)
+    ensures printed { (before : Option (List ℕ)) (text : List ℕ)
+        → OnOk written (Appends before (W.contents writer.old) text)
         → OnErr written (AppendsFront before (W.contents writer.old) text)
         → Prints before (W.contents writer.new) (W.has_refused writer.new) result text status }
-    ensures asked { (before : W) → OnOk written (IsWritten W.transition before writer.old) → OnErr written (IsRefused W.transition before writer.old)
+    ensures asked { (before : W) → OnOk written (IsWritten W.transition before writer.old)
+        → OnErr written (IsRefused W.transition before writer.old)
         → WritesAndFlushes W.transition (W.has_refused writer.new) before writer.new }
     ensures passed_on { W.has_refused writer.new ≡ false → W.holds_back writer.new ≡ false }
 {
@@ -100,7 +105,8 @@ fn flush_written<W: TextSink>(written: Result<(), WriteFault>, status: u8, write
 
 /// Returns the first line of a verdict's text.
 fn head_of(verdict: &Verdict) -> &'static [u8]
-    ensures { (initial : List ℕ) (operations : List Operation) → result.now ≡ verdict_head (claim_of initial operations verdict.now) }
+    ensures { (initial : List ℕ) (operations : List Operation)
+        → result.now ≡ verdict_head (claim_of initial operations verdict.now) }
 {
     match verdict {
         Verdict::Yes(_) => return b"YES\n",
@@ -115,7 +121,8 @@ fn write_said<W: TextSink>(
     writer: &mut W,
 ) -> Result<(), WriteFault>
     requires { NamesPlaces outcome.now }
-    ensures { Writes W.contents W.has_refused W.transition (said_text is_quiet (answer_of outcome.now)) writer.old writer.new result }
+    ensures { Writes W.contents W.has_refused W.transition
+        (said_text is_quiet (answer_of outcome.now)) writer.old writer.new result }
 {
     if !is_quiet {
         return write_outcome(outcome, writer);
@@ -137,7 +144,8 @@ fn write_said<W: TextSink>(
 pub(crate) fn print_outcome<W: TextSink>(outcome: &Outcome, is_quiet: bool, writer: &mut W) -> u8
     requires fresh { W.has_refused writer.old ≡ false }
     requires places { NamesPlaces outcome.now }
-    ensures printed { PrintsSaid is_quiet (W.contents writer.old) (W.contents writer.new) (W.has_refused writer.new) result (answer_of outcome.now) }
+    ensures printed { PrintsSaid is_quiet (W.contents writer.old) (W.contents writer.new)
+        (W.has_refused writer.new) result (answer_of outcome.now) }
     ensures asked { WritesAndFlushes W.transition (W.has_refused writer.new) writer.old writer.new }
     ensures passed_on { W.has_refused writer.new ≡ false → W.holds_back writer.new ≡ false }
 {
@@ -148,7 +156,8 @@ pub(crate) fn print_outcome<W: TextSink>(outcome: &Outcome, is_quiet: bool, writ
 /// Writes that memory ran out, flushes the writer, and returns the status.
 pub(crate) fn print_memory<W: TextSink>(writer: &mut W) -> u8
     requires fresh { W.has_refused writer.old ≡ false }
-    ensures printed { PrintsAnswer (W.contents writer.old) (W.contents writer.new) (W.has_refused writer.new) result memory_fault }
+    ensures printed { PrintsAnswer (W.contents writer.old) (W.contents writer.new)
+        (W.has_refused writer.new) result memory_fault }
     ensures asked { WritesAndFlushes W.transition (W.has_refused writer.new) writer.old writer.new }
     ensures passed_on { W.has_refused writer.new ≡ false → W.holds_back writer.new ≡ false }
 {
@@ -158,7 +167,8 @@ pub(crate) fn print_memory<W: TextSink>(writer: &mut W) -> u8
 /// Writes a text, flushes the writer, and returns the status.
 pub(crate) fn print_text<W: TextSink>(text: &[u8], status: u8, writer: &mut W) -> u8
     requires fresh { W.has_refused writer.old ≡ false }
-    ensures printed { Prints (W.contents writer.old) (W.contents writer.new) (W.has_refused writer.new) result text.now status }
+    ensures printed { Prints (W.contents writer.old) (W.contents writer.new)
+        (W.has_refused writer.new) result text.now status }
     ensures asked { WritesAndFlushes W.transition (W.has_refused writer.new) writer.old writer.new }
     ensures passed_on { W.has_refused writer.new ≡ false → W.holds_back writer.new ≡ false }
 {

@@ -12,7 +12,8 @@ pub(crate) fn write_rejections<W: TextSink>(
     rejections: &[Rejection],
     writer: &mut W,
 ) -> Result<(), WriteFault>
-    ensures { Writes W.contents W.has_refused W.transition (rejection_lines rejections.now) writer.old writer.new result }
+    ensures { Writes W.contents W.has_refused W.transition
+        (rejection_lines rejections.now) writer.old writer.new result }
 {
     let mut kept = WriteBuffer::new();
     for rejection in rejections {

@@ -66,7 +66,8 @@ fn shrink_weakly(alloc: Global, version: Version, history: History) -> Outcome
     requires version { version ≡ One → history.initial ≡ [] }
     requires complete { IsCompleteFrom history.initial history.events }
     requires few { length history.initial ≤ MAX_INITIAL }
-    ensures found { AnswersOrNoMemory (Shrinks (record { is_local = false; is_weakly_empty = true })) (said_in version history) (answer_of result) }
+    ensures found { AnswersOrNoMemory (Shrinks (record { is_local = false; is_weakly_empty = true }))
+        (said_in version history) (answer_of result) }
     ensures places { NamesPlaces result }
 {
     match decide_weakly_empty(alloc, &history)? {
@@ -89,7 +90,8 @@ fn shrink_locally(
     requires complete { IsCompleteFrom history.initial history.events }
     requires few { length history.initial ≤ MAX_INITIAL }
     ensures found { (is_weak : Bool) → emptiness ≡ emptiness_if is_weak
-        → AnswersOrNoMemory (Shrinks (record { is_local = true; is_weakly_empty = is_weak })) (said_in version history) (answer_of result) }
+        → AnswersOrNoMemory (Shrinks (record { is_local = true; is_weakly_empty = is_weak })) (said_in version history)
+        (answer_of result) }
     ensures places { NamesPlaces result }
 {
     match decide_local(alloc, &history, emptiness)? {

@@ -16,7 +16,8 @@ use verdicts::decide;
 
 /// Answers `sim` for the text of a reader.
 pub(crate) fn sim<S: TextSource + Drop>(alloc: Global, reader: S) -> Outcome
-    ensures found { OfInput (S.ahead reader) (λ input. AnswersFor IsScheduleOf IsFaultOfScheduleInput Simulates input (answer_of result)) }
+    ensures found { OfInput (S.ahead reader)
+        (λ input. AnswersFor IsScheduleOf IsFaultOfScheduleInput Simulates input (answer_of result)) }
     ensures places { NamesPlaces result }
 {
     let schedule = schedule_of(alloc, reader)?;

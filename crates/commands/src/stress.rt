@@ -11,7 +11,8 @@ ghost use Rattle.command_words.specs.Options.{settings_of, IsWithinRanges};
 ghost use Rattle.commands.specs.Answers.{ShowsNoViolation};
 ghost use Rattle.commands.specs.Judging.{AnswersOrNoMemory};
 ghost use Rattle.commands.specs.Outcomes.{answer_of, NamesPlaces};
-ghost use Rattle.commands.specs.Stressing.{IsFirstNamed, IsProvedName, IsShownRun, RunsOrFails, Stresses, StressesQueue, StressesUnshelved, first_values, run_version};
+ghost use Rattle.commands.specs.Stressing.{IsFirstNamed, IsProvedName, IsShownRun, RunsOrFails, Stresses};
+ghost use Rattle.commands.specs.Stressing.{StressesQueue, StressesUnshelved, first_values, run_version};
 
 use crate::histories::PIECES;
 use crate::judging::decide_under;
@@ -32,7 +33,8 @@ pub const TRIES: u32 = 1_000_000;
 
 /// A queue, and the name by which `stress` finds it.
 ///
-/// A run expects the queue to be empty: a value that an earlier run left in it is dequeued as one that nobody enqueued.
+/// A run expects the queue to be empty: a value that an earlier run left in it is dequeued as one that nobody
+/// enqueued.
 #[derive(Drop)]
 pub struct NamedQueue<'a> {
     pub name: &'a str,
@@ -48,7 +50,8 @@ pub fn stress<'a, R: Threads + Wait + Sync>(
     options: &StressOptions<'a>,
 ) -> Outcome
     requires { IsWithinRanges (settings_of options.now) }
-    ensures found { Stresses (λ s. s.name.now) (λ s. may s.queue) (λ s. may_preload s.queue) shelf.now (settings_of options.now) (answer_of result) }
+    ensures found { Stresses (λ s. s.name.now) (λ s. may s.queue) (λ s. may_preload s.queue) shelf.now
+        (settings_of options.now) (answer_of result) }
     ensures places { NamesPlaces result }
 {
     let Some(shelved) = find(shelf, options.queue) else {
@@ -111,7 +114,8 @@ fn stress_shelved<'a, R: Threads + Sync>(
     options: &StressOptions<'a>,
 ) -> Outcome
     requires { IsWithinRanges (settings_of options.now) }
-    ensures found { StressesQueue (may shelved.now.queue) (may_preload shelved.now.queue) (settings_of options.now) (answer_of result) }
+    ensures found { StressesQueue (may shelved.now.queue) (may_preload shelved.now.queue) (settings_of options.now)
+        (answer_of result) }
     ensures places { NamesPlaces result }
 {
     if options.threads as u64 * options.operations as u64 > MAX_OPERATIONS {
@@ -161,7 +165,8 @@ fn stress_proved<'a, R: Threads + Wait + Sync>(
 fn plan_of<'a>(alloc: Global, options: &StressOptions<'a>) -> Result<(Plan, Vec<u64>), AllocError>
     requires ranges { IsWithinRanges (settings_of options.now) }
     requires few { options.now.threads * options.now.operations ≤ MAX_OPERATIONS }
-    ensures seeded { IfOk result (λ made. IsSeeded options.now.seed options.now.threads options.now.operations options.now.percent made.0) }
+    ensures seeded { IfOk result
+        (λ made. IsSeeded options.now.seed options.now.threads options.now.operations options.now.percent made.0) }
     ensures first { IfOk result (λ made. made.1.items ≡ first_values options.now.initial) }
 {
     let plan = Plan::from_seed(

@@ -75,7 +75,8 @@ pub fn stats_text(alloc: Global, text: &[u8]) -> Outcome
 
 /// Answers `check` for the history of a builder.
 pub fn judge_gathered(alloc: Global, builder: HistoryBuilder, condition: Condition) -> Outcome
-    ensures found { (history : HistoryView) → IsGathered history builder → AnswersOrNoMemory (JudgesHistory condition) history (answer_of result) }
+    ensures found { (history : HistoryView) → IsGathered history builder
+        → AnswersOrNoMemory (JudgesHistory condition) history (answer_of result) }
     ensures places { NamesPlaces result }
 {
     let history = builder.finish()?;

@@ -55,7 +55,8 @@ impl<S> FrontKept<S> {
     /// Keeps these bytes too, if all before them are kept and there is room.
     fn keep(&mut self, given: &[u8])
         ensures source { self.new.source ≡ self.old.source }
-        ensures kept { self.new.is_whole ≡ true → (self.old.is_whole ≡ true) × (self.new.front ≡ self.old.front ++ given.now) }
+        ensures kept { self.new.is_whole ≡ true
+            → (self.old.is_whole ≡ true) × (self.new.front ≡ self.old.front ++ given.now) }
         ensures left { self.new.is_whole ≡ false → self.new.front ≡ self.old.front }
     {
         if !self.is_whole {
@@ -72,7 +73,8 @@ impl<S: TextSource> TextSource for FrontKept<S> {
     fn read(&mut self, piece: &mut [u8]) -> Result<usize, ReadFailed>
         ensures bound { IfOk result (λ n. n ≤ length piece.new) }
         ensures bytes { ReadGives (S.ahead self.old.source) (S.ahead self.new.source) result piece.new }
-        ensures kept { self.new.is_whole ≡ true → IfOk result (λ n. self.new.front ≡ self.old.front ++ take n piece.new) }
+        ensures kept { self.new.is_whole ≡ true
+            → IfOk result (λ n. self.new.front ≡ self.old.front ++ take n piece.new) }
         ensures left { self.new.is_whole ≡ false → self.new.front ≡ self.old.front }
         ensures failed { OnErr result (self.new.front ≡ self.old.front) }
     {

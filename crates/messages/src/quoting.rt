@@ -23,7 +23,8 @@ fn hex_digit(number: u8) -> char
 /// Appends a byte: itself if it is printable, else its escape.
 fn push_quoted(text: &mut String, byte: u8) -> Result<(), AllocError>
     ensures shown { OnOk result (string_bytes text.new ≡ string_bytes text.old ++ shown_byte byte) }
-    ensures printable { All IsPrintable (string_bytes text.old) → OnOk result (All IsPrintable (string_bytes text.new)) }
+    ensures printable { All IsPrintable (string_bytes text.old)
+        → OnOk result (All IsPrintable (string_bytes text.new)) }
 {
     match byte {
         b'\r' => text.push_str("\\r"),

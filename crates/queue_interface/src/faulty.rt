@@ -304,7 +304,8 @@ impl ValueList for InventingList {
 
     fn take(&mut self) -> Option<u64>
         ensures counted { CountsCall self.old.list self.new.list }
-        ensures invented { IsFourth self.new.list → (result ≡ Some (invention self.old.invented)) × (self.new.invented ≡ next self.old.invented) }
+        ensures invented { IsFourth self.new.list
+            → (result ≡ Some (invention self.old.invented)) × (self.new.invented ≡ next self.old.invented) }
         ensures kept { IsFourth self.new.list → self.new.list.values ≡ self.old.list.values }
         ensures first { ¬ (IsFourth self.new.list) → TakesFirst self.old.list.values result self.new.list.values }
     {

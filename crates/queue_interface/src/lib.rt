@@ -99,8 +99,8 @@ pub trait TestQueue: Drop + Send + Sync {
         ensures question { result.question ≡ ask }
         ensures allowed { may self.now ask result.answer };
 
-    /// Appends a value before a run, and returns whether it did: false if the queue is full or out of memory. Values are
-    /// put in one after another, the front one first, each with its place from 0.
+    /// Appends a value before a run, and returns whether it did: false if the queue is full or out of memory. Values
+    /// are put in one after another, the front one first, each with its place from 0.
     ///
     /// This is no operation: no question asks it, it is recorded nowhere, and built-in queues with faults don't count
     /// it. It may wait as `enqueue` may. Whether the value is there

@@ -1,5 +1,6 @@
 //! The machine of a recorder.
-ghost use Rattle.std.specs.Prelude.{◌≡◌, ℕ, ◌+◌, ◌≤◌, ◌<◌, ◌↔◌, IfOk, OnOk, OnErr, IsTrue, [], ◌∷◌, List, Some, length};
+ghost use Rattle.std.specs.Prelude.{◌≡◌, ℕ, ◌+◌, ◌≤◌, ◌<◌, ◌↔◌, IfOk, OnOk, OnErr, IsTrue, [], ◌∷◌, List, Some};
+ghost use Rattle.std.specs.Prelude.{length};
 ghost use Rattle.std.specs.List.{list_all};
 ghost use Rattle.recorder_core.specs.declared.step.Step.TheVariants.{Push, Effect, Say, Ret, Drain, Close};
 ghost use Rattle.recorder_core.specs.Setting.{Setting};

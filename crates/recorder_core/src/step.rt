@@ -8,8 +8,8 @@ use std::fmt;
 /// One atomic step of one thread, whose number comes first.
 #[derive(Clone, Copy, Debug, PartialEq, Eq)]
 pub enum Step {
-    /// Draws a ticket and begins an enqueue; its call event is held. The value is `thread * 2^32 + n`, where `n` counts
-    /// all operations of the thread from 0.
+    /// Draws a ticket and begins an enqueue; its call event is held. The value is `thread * 2^32 + n`, where `n`
+    /// counts all operations of the thread from 0.
     AskEnq(u8),
     /// Draws a ticket and begins a dequeue; its call event is held.
     AskDeq(u8),

@@ -150,7 +150,8 @@ impl Thread {
 
     /// Returns the request that has no answer yet.
     pub(crate) fn unanswered(&self) -> Result<Request, StepRefused>
-        ensures refused { result_err result ≡ find (seen self.now none_other) (Closed ∷ NotPending ∷ AnswerTaken ∷ []) }
+        ensures refused { result_err result ≡ find (seen self.now none_other)
+            (Closed ∷ NotPending ∷ AnswerTaken ∷ []) }
         ensures ok { IfOk result (λ request. self.now.pending ≡ Some (record { request = request; answer = None })) }
     {
         self.open()?;

@@ -148,7 +148,8 @@ fn of_a_legal_order(rt: HostRuntime) -> Result<(), Fail> {
 
 /// Returns the verdict on a history.
 pub(crate) fn decided(alloc: Global, history: &History) -> Result<Verdict, AllocError>
-    ensures chosen { IfOk result (λ verdict. IsVerdict history.now.initial (operations_of history.now.events) verdict) }
+    ensures chosen { IfOk result (λ verdict. IsVerdict history.now.initial
+        (operations_of history.now.events) verdict) }
     ensures places { IfOk result (λ verdict. IsWithin history.now.initial (operations_of history.now.events) verdict) }
 {
     match decide(alloc, history) {

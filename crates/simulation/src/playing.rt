@@ -116,7 +116,8 @@ fn ending_of(alloc: Global, machine: &Machine, threads: usize) -> Result<Ending,
 fn collected(alloc: Global, machine: &Machine, threads: usize) -> Result<Lists, AllocError>
     requires threads { length machine.now.threads ≡ threads }
     requires few { threads ≤ MAX_THREADS }
-    ensures { IfOk result (λ lists. (setting : Setting) (schedule : List Attempt) → IsAfter setting machine.now schedule
+    ensures { IfOk result (λ lists. (setting : Setting) (schedule : List Attempt)
+        → IsAfter setting machine.now schedule
         → lists ≡ map (collected_in setting schedule) (range_with_len 0 threads)) }
 {
     let mut lists: Vec<Vec<Event>> = Vec::with_capacity(alloc, threads)?;

@@ -88,7 +88,8 @@ fn in_order(operations: &[PackedOperation], enq: usize, one: usize, other: usize
     requires other { other < length operations.now }
     ensures enq { result.enq ≡ enq }
     ensures in_order { return_at operations.now result.first ≤ return_at operations.now result.second }
-    ensures both { ((result.first ≡ one) × (result.second ≡ other)) ⊎ ((result.first ≡ other) × (result.second ≡ one)) }
+    ensures both { ((result.first ≡ one) × (result.second ≡ other))
+        ⊎ ((result.first ≡ other) × (result.second ≡ one)) }
 {
     let (first, second) = if return_at(operations, one) <= return_at(operations, other) {
         (one, other)

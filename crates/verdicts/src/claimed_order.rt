@@ -10,8 +10,8 @@ use history_merge::{History, OpKind, Operation, Operations};
 use std::alloc::{AllocError, Global};
 use std::collections::VecDeque;
 
-/// Returns whether the lines are a linearization of the history's operations, for a queue that holds its initial values
-/// first.
+/// Returns whether the lines are a linearization of the history's operations, for a queue that holds its initial
+/// values first.
 pub(crate) fn is_legal_order(
     alloc: Global,
     history: &History,
