@@ -1,5 +1,6 @@
 -- The progress of the seal.
-use Rattle.std.proofs.Common.{◌≡◌, ℕ, suc, ◌+◌, List, [], ◌∷◌, ◌++◌, length, map, refl, ap, sym, subst, ◌∙◌, arith, append_assoc, length-append}
+use Rattle.std.proofs.Common.{◌≡◌, ℕ, suc, ◌+◌, List, [], ◌∷◌, ◌++◌, length, map, refl, ap, sym, subst, ◌∙◌, arith}
+use Rattle.std.proofs.Common.{append_assoc, length-append}
 use Rattle.std.proofs.Common.{add-one, append-nil}
 use Rattle.std.proofs.lemmas.List.{map-append}
 use Rattle.std.specs.List.{AllZip, range_with_len}
@@ -11,7 +12,8 @@ use Rattle.std.proofs.lemmas.Slice.Zip.{AllZip-long}
 use Rattle.collector.specs.Ends.{Fits, AreInOrder, IsFirstForeign, AreOwnUpTo, threads_of, threads_of_tokens}
 
 -- the tokens used so far are of their places' threads, and the lists so far are all that they name
-pub record IsSealing (tokens : List TokenView) (rings : List DrainView) (left : List TokenView) (lists : List (List Event)) : Type 0 where
+pub record IsSealing (tokens : List TokenView) (rings : List DrainView) (left : List TokenView)
+    (lists : List (List Event)) : Type 0 where
   pub done : List TokenView
   pub tokens_are : tokens ≡ done ++ left
   pub fits : AllZip Fits rings left
@@ -27,14 +29,16 @@ tail_same x y xs ys e = cc
 
 module _ (tokens : List TokenView) (rings rings' : List DrainView) (left left' : List TokenView) (lists : List (List Event)) (r : DrainView)
     (t : TokenView) (p : IsSealing tokens rings left lists) (next_ring : rings ≡ r ∷ rings') (next_token : left ≡ t ∷ left') where
-  ordered : r.thread ∷ map (λ (ring : DrainView). ring.thread) rings' ≡ length p.done ∷ range_with_len (length p.done + 1) (length rings')
+  ordered : r.thread ∷ map (λ (ring : DrainView). ring.thread) rings' ≡ length p.done
+      ∷ range_with_len (length p.done + 1) (length rings')
   ordered = subst (λ (rs : List DrainView). map (λ (ring : DrainView). ring.thread) rs ≡ range_with_len (length p.done) (length rs)) next_ring p.order
 
   own_place : r.thread ≡ length p.done
   own_place = head_same _ _ _ _ ordered
 
   -- one more ring is sealed by its token
-  pub seals_next : (events : List Event) → events ≡ t.sent → t.thread ≡ r.thread → IsSealing tokens rings' left' (lists ++ events ∷ [])
+  pub seals_next : (events : List Event) → events ≡ t.sent → t.thread ≡ r.thread
+      → IsSealing tokens rings' left' (lists ++ events ∷ [])
   seals_next events all own = record {
     done = p.done ++ t ∷ [];
     tokens_are = p.tokens_are ∙ ap (λ l. p.done ++ l) next_token ∙ sym (append_assoc p.done (t ∷ []) left');
@@ -82,7 +86,8 @@ none_left [] fits = refl
 none_left (t ∷ ts) fits = absurd fits
 
 -- if no token is left, each was of its place's thread
-pub all_certified : (tokens : List TokenView) (ends rings : List DrainView) (left : List TokenView) (lists : List (List Event))
+pub all_certified : (tokens : List TokenView) (ends rings : List DrainView) (left : List TokenView)
+    (lists : List (List Event))
     → AllZip Fits ends tokens → AreInOrder ends → IsSealing tokens rings left lists → left ≡ [] → threads_of_tokens tokens ≡ threads_of ends
 all_certified tokens ends rings left lists fits order p none =
     let all : tokens ≡ p.done = p.tokens_are ∙ ap (λ (l : List TokenView). p.done ++ l) none ∙ append-nil p.done in
@@ -90,7 +95,8 @@ all_certified tokens ends rings left lists fits order p none =
     ap threads_of_tokens all ∙ p.own ∙ ap numbers_below long ∙ sym order
 
 -- if no ring is left, no token is
-pub certified_at_end : (tokens : List TokenView) (ends rings : List DrainView) (left : List TokenView) (lists : List (List Event))
+pub certified_at_end : (tokens : List TokenView) (ends rings : List DrainView) (left : List TokenView)
+    (lists : List (List Event))
     → AllZip Fits ends tokens → AreInOrder ends → IsSealing tokens rings left lists → length rings ≡ 0 → threads_of_tokens tokens ≡ threads_of ends
 certified_at_end tokens ends rings left lists fits order p none =
     all_certified tokens ends rings left lists fits order p (none_left left (subst (λ (rs : List DrainView). AllZip Fits rs left) (empty rings none) p.fits))

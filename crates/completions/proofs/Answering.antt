@@ -1,5 +1,6 @@
 -- The answers to pending calls, the values that they give, and the operations that they complete.
-use Rattle.std.proofs.Common.{◌≡◌, ◌≢◌, ℕ, zero, suc, ◌+◌, ◌-◌, ◌<◌, ◌⊎◌, ◌++◌, inl, inr, Bool, true, false, not, List, [], ◌∷◌, length, map, Option}
+use Rattle.std.proofs.Common.{◌≡◌, ◌≢◌, ℕ, zero, suc, ◌+◌, ◌-◌, ◌<◌, ◌⊎◌, ◌++◌, inl, inr, Bool, true, false, not, List}
+use Rattle.std.proofs.Common.{[], ◌∷◌, length, map, Option}
 use Rattle.std.proofs.Common.{Some, None, refl, ap, sym, subst, ◌∙◌, arith}
 use Rattle.std.proofs.Common.{get_or, take, drop}
 use Rattle.std.specs.Prelude.{AllPairs, Contains, filter, nat_eq, slice_get, option_and_then, cond}
@@ -22,13 +23,15 @@ use Rattle.history_merge.specs.Complete.{called_value}
 use Rattle.history_merge.specs.Faults.{pending_call}
 use Rattle.history_merge.specs.Initial.{enqueues_from, initial_enqueues, later_by}
 use Rattle.history_merge.specs.Operations.{kind_of, operation_of, operations_of}
-use Rattle.history_merge.proofs.Distinct.{contains_at, contains_cons, cut_at, not_in_none, pairs_at, place_of, rises_later, made_of, traced}
+use Rattle.history_merge.proofs.Distinct.{contains_at, contains_cons, cut_at, not_in_none, pairs_at, place_of}
+use Rattle.history_merge.proofs.Distinct.{rises_later, made_of, traced}
 use Rattle.history_merge.proofs.Turns.{answered_is_call, projection-at}
 use Rattle.completions.specs.declared.answers.Answer.{Answer}
 use Rattle.completions.specs.Pending.{IsHistoryFrom, TakesTurnsSoFar}
 use Rattle.completions.specs.Completed.{enqueue_answer, given_value, given_values, is_given, left_values}
 use Rattle.completions.specs.Completed.{paired, taken_value, taken_values}
-use Rattle.completions.proofs.Followed.{last_is_pending, last_or-some, operations_keep, operations_made, operations_push, pending_is_last}
+use Rattle.completions.proofs.Followed.{last_is_pending, last_or-some, operations_keep, operations_made}
+use Rattle.completions.proofs.Followed.{operations_push, pending_is_last}
 use Rattle.completions.proofs.Whole.{pairs_none}
 use Rattle.completions.proofs.Followed.{head_option}
 use Rattle.history_merge.proofs.Distinct.{contains_cons_option, behind_option}
@@ -37,7 +40,8 @@ use Rattle.history_merge.proofs.Lists.{one_deeper, kept, keeps, all_members, All
 -- ---- the call before a return
 
 -- in a thread whose events take turns, a return comes right after a call of its kind
-call_before : (before : List Event) (e : Event) (later : List Event) → TakesTurnsSoFar (before ++ e ∷ later) → is_call e.what ≡ false
+call_before : (before : List Event) (e : Event) (later : List Event) → TakesTurnsSoFar (before ++ e ∷ later)
+    → is_call e.what ≡ false
     → (call : Event) × (last_or None before ≡ Some call) × (answers call.what e.what ≡ true)
 call_before [] e [] turns ret = let clash : true ≡ false = sym turns ∙ ret in cc
 call_before [] e (answer ∷ later) turns ret = let clash : true ≡ false = sym (answered_is_call e.what answer.what turns.0) ∙ ret in cc
@@ -79,7 +83,8 @@ answer_of_dequeue RetNot answer v is = cc
 answer_of_dequeue (RetDeq u) answer v is = cc
 answer_of_dequeue RetEmpty answer v is = cc
 
-answer_of_enqueue : (call answer : What) (v : ℕ) → kind_of call answer ≡ Some (Enqueue v) → (call ≡ CallEnq v) × (answer ≡ RetEnq)
+answer_of_enqueue : (call answer : What) (v : ℕ) → kind_of call answer ≡ Some (Enqueue v)
+    → (call ≡ CallEnq v) × (answer ≡ RetEnq)
 answer_of_enqueue (CallEnq u) RetEnq v is = let e : Some (Enqueue u) ≡ Some (Enqueue v) = is in (let f : u ≡ v = cc in ap (λ w. CallEnq w) f, refl)
 answer_of_enqueue (CallEnq u) RetNot v is = cc
 answer_of_enqueue (CallEnq u) (RetDeq w) v is = cc
@@ -107,7 +112,8 @@ module _ (initial : List ℕ) (events : List Event) (history : IsHistoryFrom ini
       by_parts (take at.0 events) (drop (suc at.0) events) parts
     where
       by_parts : (before later : List Event) → events ≡ before ++ r ∷ later
-          → (call : Event) × (o : Operation) × (operation_of call (Some r) ≡ Some o) × Contains (operations_of events) o
+          → (call : Event) × (o : Operation) × (operation_of call (Some r) ≡ Some o)
+          × Contains (operations_of events) o
       by_parts before later is =
           let turns : TakesTurnsSoFar (projection r.thread before ++ r ∷ projection r.thread later) =
           subst TakesTurnsSoFar (ap (projection r.thread) is ∙ projection-at before later r) (history.threads_take_turns r.thread) in
@@ -120,7 +126,8 @@ module _ (initial : List ℕ) (events : List Event) (history : IsHistoryFrom ini
           (found.0, o, made, subst (λ (es : List Event). Contains (operations_of es) o) (sym whole) (operations_keep (before ++ r ∷ []) later o there))
 
   -- the given values are those that operations dequeued
-  pub given_by : (v : ℕ) → is_given events v ≡ true → (o : Operation) × Contains (operations_of events) o × (o.kind ≡ Dequeue v)
+  pub given_by : (v : ℕ) → is_given events v ≡ true
+      → (o : Operation) × Contains (operations_of events) o × (o.kind ≡ Dequeue v)
   given_by v is =
       let any = Any-from_list_any (λ w. nat_eq w v) (given_values events) is in
       let r = kept (λ (e : Event). given_value e.what) events any.1 (any.0, any.2, any.3) in
@@ -133,7 +140,8 @@ module _ (initial : List ℕ) (events : List Event) (history : IsHistoryFrom ini
       gives (RetDeq u) w e = cc
       gives _ w e = cc
 
-      dequeued : (call r : Event) (o : Operation) (v : ℕ) → operation_of call (Some r) ≡ Some o → r.what ≡ RetDeq v → o.kind ≡ Dequeue v
+      dequeued : (call r : Event) (o : Operation) (v : ℕ) → operation_of call (Some r) ≡ Some o → r.what ≡ RetDeq v
+          → o.kind ≡ Dequeue v
       dequeued call r o v made what =
           let of = made_of call (Some r) o made in
           let same : r ≡ of.0 = let e : Some r ≡ Some of.0 = of.1 in cc in
@@ -141,7 +149,8 @@ module _ (initial : List ℕ) (events : List Event) (history : IsHistoryFrom ini
           subst (λ (w : What). kind_of call.what w ≡ Some o.kind) (ap (λ (e : Event). e.what) (sym same) ∙ what) of.2.kind in
           kind_of_dequeue call.what v o.kind kind
 
-  pub given_value_is : (v : ℕ) (o : Operation) → Contains (operations_of events) o → o.kind ≡ Dequeue v → is_given events v ≡ true
+  pub given_value_is : (v : ℕ) (o : Operation) → Contains (operations_of events) o → o.kind ≡ Dequeue v
+      → is_given events v ≡ true
   given_value_is v o among is =
       let t = traced events o among in
       let what = answer_of_dequeue t.call.what t.answer.what v (t.made.kind ∙ ap (λ k. Some k) is) in
@@ -162,7 +171,8 @@ taken_from before [] = []
 taken_from before (e ∷ later) = cons_option (taken_operation before e) (taken_from (before ++ e ∷ []) later)
 
 taken_made : (before : List Event) (e : Event) (o : Operation) → taken_operation before e ≡ Some o
-    → (call : Event) × (pending_call e.thread before ≡ Some call) × (operation_of call (Some e) ≡ Some o) × (e.what ≡ RetEnq)
+    → (call : Event) × (pending_call e.thread before ≡ Some call) × (operation_of call (Some e) ≡ Some o)
+    × (e.what ≡ RetEnq)
 taken_made before e o is = by_what e.what refl is
   where
     by_pending : (p : Option Event) → option_and_then (λ call. operation_of call (Some e)) p ≡ Some o
@@ -171,7 +181,8 @@ taken_made before e o is = by_what e.what refl is
     by_pending (Some call) made = (call, refl, made)
 
     by_what : (w : What) → e.what ≡ w → (elim w [ RetEnq ↦ option_and_then (λ call. operation_of call (Some e)) (pending_call e.thread before) | _ ↦ None ]) ≡ Some o
-        → (call : Event) × (pending_call e.thread before ≡ Some call) × (operation_of call (Some e) ≡ Some o) × (e.what ≡ RetEnq)
+        → (call : Event) × (pending_call e.thread before ≡ Some call) × (operation_of call (Some e) ≡ Some o)
+        × (e.what ≡ RetEnq)
     by_what RetEnq what made = let found = by_pending (pending_call e.thread before) made in (found.0, found.1, found.2, what)
     by_what (CallEnq v) what made = cc
     by_what CallDeq what made = cc
@@ -181,7 +192,8 @@ taken_made before e o is = by_what e.what refl is
 
 -- these are operations of the history
 pub taken_in : (before later : List Event) (o : Operation) → Contains (taken_from before later) o
-    → Contains (operations_of (before ++ later)) o × ((v : ℕ) × (o.kind ≡ Enqueue v)) × ((e : Event) × Contains later e × (o.ret ≡ e.ticket))
+    → Contains (operations_of (before ++ later)) o × ((v : ℕ) × (o.kind ≡ Enqueue v))
+    × ((e : Event) × Contains later e × (o.ret ≡ e.ticket))
 taken_in before [] o among = absurd (not_in_none o among)
 taken_in before (e ∷ later) o among =
     let parts : (before ++ e ∷ []) ++ later ≡ before ++ e ∷ later = append_assoc before (e ∷ []) later in
@@ -200,7 +212,8 @@ taken_in before (e ∷ later) o among =
           (subst (λ (es : List Event). Contains (operations_of es) o) parts found.0, found.1, (found.2.0, one_deeper e later found.2.0 found.2.1, found.2.2))
     ]
   where
-    enqueued : (call answer : What) (k : OpKind) → answer ≡ RetEnq → kind_of call answer ≡ Some k → (v : ℕ) × (k ≡ Enqueue v)
+    enqueued : (call answer : What) (k : OpKind) → answer ≡ RetEnq → kind_of call answer ≡ Some k
+        → (v : ℕ) × (k ≡ Enqueue v)
     enqueued (CallEnq v) answer k is made = let e : kind_of (CallEnq v) RetEnq ≡ Some k = subst (λ w. kind_of (CallEnq v) w ≡ Some k) is made in
         let f : Some (Enqueue v) ≡ Some k = e in (v, cc)
     enqueued CallDeq answer k is made = let e : kind_of CallDeq RetEnq ≡ Some k = subst (λ w. kind_of CallDeq w ≡ Some k) is made in let f : None ≡ Some k = e in cc
@@ -210,7 +223,8 @@ taken_in before (e ∷ later) o among =
     enqueued RetEmpty answer k is made = cc
 
 -- each successful enqueue is one of these
-pub taken_all : (before later : List Event) (o : Operation) (v : ℕ) → Contains (operations_of (before ++ later)) o → o.kind ≡ Enqueue v
+pub taken_all : (before later : List Event) (o : Operation) (v : ℕ) → Contains (operations_of (before ++ later)) o
+    → o.kind ≡ Enqueue v
     → Contains (operations_of before) o ⊎ Contains (taken_from before later) o
 taken_all before [] o v among is = inl (subst (λ (es : List Event). Contains (operations_of es) o) (append-nil before) among)
 taken_all before (e ∷ later) o v among is =
@@ -243,11 +257,13 @@ value_in _ = 0
 abbrev pub value_of : Operation → ℕ
 value_of o = value_in o.kind
 
-map_cons_option : {X Y : Type 0} (f : X → Y) (made : Option X) (xs : List X) → map f (cons_option made xs) ≡ cons_option (option_map f made) (map f xs)
+map_cons_option : {X Y : Type 0} (f : X → Y) (made : Option X) (xs : List X)
+    → map f (cons_option made xs) ≡ cons_option (option_map f made) (map f xs)
 map_cons_option f None xs = refl
 map_cons_option f (Some x) xs = refl
 
-value_of_kind : (call e : Event) → option_map value_of (operation_of call (Some e)) ≡ option_map value_in (kind_of call.what e.what)
+value_of_kind : (call e : Event)
+    → option_map value_of (operation_of call (Some e)) ≡ option_map value_in (kind_of call.what e.what)
 value_of_kind call e = by_kind (kind_of call.what e.what)
   where
     by_kind : (k : Option OpKind) → option_map value_of (elim k [
@@ -265,10 +281,12 @@ called_by_enqueue RetNot = refl
 called_by_enqueue (RetDeq v) = refl
 called_by_enqueue RetEmpty = refl
 
-taken_value_is : (before : List Event) (e : Event) → option_map value_of (taken_operation before e) ≡ taken_value before e
+taken_value_is : (before : List Event) (e : Event)
+    → option_map value_of (taken_operation before e) ≡ taken_value before e
 taken_value_is before e = by_what e.what refl
   where
-    by_pending : (p : Option Event) → e.what ≡ RetEnq → option_map value_of (option_and_then (λ call. operation_of call (Some e)) p)
+    by_pending : (p : Option Event) → e.what ≡ RetEnq
+        → option_map value_of (option_and_then (λ call. operation_of call (Some e)) p)
         ≡ option_and_then (λ call. called_value call.what) p
     by_pending None what = refl
     by_pending (Some call) what =
@@ -291,7 +309,8 @@ taken_values_are before (e ∷ later) =
     ∙ ap (λ (o : Option ℕ). cons_option o (map value_of (taken_from (before ++ e ∷ []) later))) (taken_value_is before e)
     ∙ ap (λ (vs : List ℕ). cons_option (taken_value before e) vs) (taken_values_are (before ++ e ∷ []) later)
 
-filter_values : (p : ℕ → Bool) (xs : List Operation) → map value_of (filter (λ o. p (value_of o)) xs) ≡ filter p (map value_of xs)
+filter_values : (p : ℕ → Bool) (xs : List Operation)
+    → map value_of (filter (λ o. p (value_of o)) xs) ≡ filter p (map value_of xs)
 filter_values p [] = refl
 filter_values p (x ∷ xs) = elim (cases_Bool (p (value_of x))) [
   | inl passes ↦ rw passes (ap (λ (vs : List ℕ). value_of x ∷ vs) (filter_values p xs))
@@ -311,7 +330,8 @@ abbrev pub left_enqueues : List ℕ → List Event → List Operation
 left_enqueues initial events =
     filter (λ o. not (is_given events (value_of o))) (initial_enqueues initial ++ map (later_by ORIGIN) (taken_from [] events))
 
-pub left_are : (initial : List ℕ) (events : List Event) → map value_of (left_enqueues initial events) ≡ left_values initial events
+pub left_are : (initial : List ℕ) (events : List Event)
+    → map value_of (left_enqueues initial events) ≡ left_values initial events
 left_are initial events =
     filter_values (λ v. not (is_given events v)) (initial_enqueues initial ++ map (later_by ORIGIN) (taken_from [] events))
     ∙ ap (filter (λ v. not (is_given events v)))
@@ -321,7 +341,8 @@ left_are initial events =
 
 -- ---- the answers
 
-pub paired_at : (calls : List Event) (values : List ℕ) (i : ℕ) (c : Event) (v : ℕ) → slice_get calls i ≡ Some c → slice_get values i ≡ Some v
+pub paired_at : (calls : List Event) (values : List ℕ) (i : ℕ) (c : Event) (v : ℕ) → slice_get calls i ≡ Some c
+    → slice_get values i ≡ Some v
     → Contains (paired calls values) (record { call = c; what = RetDeq v })
 paired_at [] values i c v at_c at_v = let clash : None ≡ Some c = at_c in cc
 paired_at (x ∷ calls) [] i c v at_c at_v = let clash : None ≡ Some v = at_v in cc
@@ -347,7 +368,8 @@ paired_from (x ∷ calls) (w ∷ values) a among = elim (contains_cons (record {
 abbrev pub OtherThread : Event → Event → Type 0
 OtherThread c d = c.thread ≢ d.thread
 
-pub paired_apart : (calls : List Event) (values : List ℕ) → AllPairs OtherThread calls → AllPairs (λ a b. a.call.thread ≢ b.call.thread) (paired calls values)
+pub paired_apart : (calls : List Event) (values : List ℕ) → AllPairs OtherThread calls
+    → AllPairs (λ a b. a.call.thread ≢ b.call.thread) (paired calls values)
 paired_apart [] values apart = pairs_none (λ (a b : Answer). a.call.thread ≢ b.call.thread)
 paired_apart (x ∷ calls) [] apart = pairs_none (λ (a b : Answer). a.call.thread ≢ b.call.thread)
 paired_apart (x ∷ calls) (w ∷ values) apart = AllPairs-cons (λ (a b : Answer). a.call.thread ≢ b.call.thread) (record { call = x; what = RetDeq w }) (paired calls values)
@@ -369,7 +391,8 @@ enqueue_answer_is events c a is = by_value (called_value c.what) refl is
     called RetEmpty v e = cc
 
     by_value : (found : Option ℕ) → called_value c.what ≡ found
-        → option_and_then (λ v. cond (is_given events v) (Some (record { call = c; what = RetEnq })) None) found ≡ Some a
+        → option_and_then (λ v. cond (is_given events v) (Some (record { call = c; what = RetEnq })) None) found
+        ≡ Some a
         → (v : ℕ) × (c.what ≡ CallEnq v) × (is_given events v ≡ true) × (a.call ≡ c) × (a.what ≡ RetEnq)
     by_value None found made = cc
     by_value (Some v) found made = elim (cases_Bool (is_given events v)) [
@@ -387,11 +410,13 @@ enqueue_answered events c v what given =
     ap (option_and_then (λ w. cond (is_given events w) (Some (record { call = c; what = RetEnq })) None)) (ap called_value what) ∙ rw given refl
 
 -- the enqueues rise by their returns
-pub taken_rises : (before later : List Event) → TicketsRise later → AllPairs (λ x y. x.ret < y.ret) (taken_from before later)
+pub taken_rises : (before later : List Event) → TicketsRise later
+    → AllPairs (λ x y. x.ret < y.ret) (taken_from before later)
 taken_rises before [] rise = pairs_none (λ (x y : Operation). x.ret < y.ret)
 taken_rises before (e ∷ later) rise = by_made (taken_operation before e) refl (taken_rises (before ++ e ∷ []) later (rises_later e later rise))
   where
-    by_made : (made : Option Operation) → taken_operation before e ≡ made → AllPairs (λ x y. x.ret < y.ret) (taken_from (before ++ e ∷ []) later)
+    by_made : (made : Option Operation) → taken_operation before e ≡ made
+        → AllPairs (λ x y. x.ret < y.ret) (taken_from (before ++ e ∷ []) later)
         → AllPairs (λ x y. x.ret < y.ret) (cons_option made (taken_from (before ++ e ∷ []) later))
     by_made None is rest = rest
     by_made (Some o) is rest =

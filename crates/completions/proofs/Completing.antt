@@ -5,7 +5,8 @@ use Rattle.std.specs.Prelude.{All, Contains, nat_eq}
 use Rattle.std.specs.List.{last_or}
 use Rattle.std.proofs.lemmas.Bool.{cases_Bool, eq-eqb, eqb-true}
 use Rattle.std.proofs.lemmas.List.{append_assoc}
-use Rattle.std.proofs.lemmas.List.Elements.{All-contains, Contains-append_cases, Contains-append_left, Contains-append_right}
+use Rattle.std.proofs.lemmas.List.Elements.{All-contains, Contains-append_cases, Contains-append_left}
+use Rattle.std.proofs.lemmas.List.Elements.{Contains-append_right}
 use Rattle.std.proofs.lemmas.List.Kept.{AllPairs-filter}
 use Rattle.event_records.specs.declared.event.Event.{Event}
 use Rattle.event_records.specs.Projection.{projection}
@@ -15,12 +16,14 @@ use Rattle.history_merge.specs.Operations.{operation_of, operations_of}
 use Rattle.history_merge.proofs.Distinct.{contains_cons, not_in_none, rises_later}
 use Rattle.history_merge.proofs.Turns.{answer_is_return}
 use Rattle.completions.specs.Pending.{IsHistoryFrom, IsPendingCall, TakesTurnsSoFar}
-use Rattle.completions.proofs.Followed.{keeping, last_above, last_in, last_is_pending, last_of, last_or-some, made_by_call, made_later}
+use Rattle.completions.proofs.Followed.{keeping, last_above, last_in, last_is_pending, last_of, last_or-some}
+use Rattle.completions.proofs.Followed.{made_by_call, made_later}
 use Rattle.completions.proofs.Followed.{only_last, operations_kept, pending_is_last, rises_front}
 use Rattle.history_merge.proofs.Lists.{passes_filter, passed_filter, All-left}
 
 -- a call of a thread whose events take turns is the last of them, or a return comes after it
-call_or_answered : (xs : List Event) (c : Event) → TakesTurnsSoFar xs → TicketsRise xs → Contains xs c → is_call c.what ≡ true
+call_or_answered : (xs : List Event) (c : Event) → TakesTurnsSoFar xs → TicketsRise xs → Contains xs c
+    → is_call c.what ≡ true
     → (last_or None xs ≡ Some c) ⊎ ((x : Event) × Contains xs x × (is_call x.what ≡ false) × (c.ticket < x.ticket))
 call_or_answered [] c turns rise among call = absurd (not_in_none c among)
 call_or_answered (x ∷ []) c turns rise among call = elim (contains_cons x [] c among) [
@@ -59,7 +62,8 @@ module _ (initial : List ℕ) (events : List Event) (history : IsHistoryFrom ini
 
   -- a call that is pending among those that stay, and returns after them, was pending before
   pub was_pending : (returns : List Event) (thread : ℕ) (call : Event) → TicketsRise (keeping out events ++ returns)
-      → All (λ r. is_call r.what ≡ false) returns → last_of thread (keeping out events ++ returns) ≡ Some call → is_call call.what ≡ true
+      → All (λ r. is_call r.what ≡ false) returns → last_of thread (keeping out events ++ returns) ≡ Some call
+      → is_call call.what ≡ true
       → Contains events call × IsPendingCall events call
   was_pending returns thread call rise rets last is =
       let found = last_in (keeping out events ++ returns) thread call last in
@@ -87,7 +91,8 @@ module _ (initial : List ℕ) (events : List Event) (history : IsHistoryFrom ini
   -- an operation of a completion is one of the history, or a pending call with one of the added returns
   pub completed_or_ended : (returns : List Event) (o : Operation) → TicketsRise (keeping out events ++ returns)
       → All (λ r. is_call r.what ≡ false) returns → Contains (operations_of (keeping out events ++ returns)) o
-      → Contains (operations_of events) o ⊎ ((call r : Event) × Contains events call × IsPendingCall events call × Contains returns r
+      → Contains (operations_of events) o
+      ⊎ ((call r : Event) × Contains events call × IsPendingCall events call × Contains returns r
       × (call.thread ≡ r.thread) × (operation_of call (Some r) ≡ Some o))
   completed_or_ended returns o rise rets among = elim (made_later (keeping out events) returns o among) [
     | inl old ↦ inl (subst (λ (os : List Operation). Contains os o) same_operations old)

@@ -1,5 +1,6 @@
 -- Different places below a bound are no more than the bound.
-use Rattle.std.proofs.Common.{◌≡◌, ℕ, zero, suc, ◌<◌, ◌≤◌, true, List, [], ◌∷◌, ◌++◌, length, get_or, refl, ap, sym, subst, ◌∙◌, arith}
+use Rattle.std.proofs.Common.{◌≡◌, ℕ, zero, suc, ◌<◌, ◌≤◌, true, List, [], ◌∷◌, ◌++◌, length, get_or, refl, ap, sym}
+use Rattle.std.proofs.Common.{subst, ◌∙◌, arith}
 use Rattle.std.proofs.Common.{inl, inr, length-append}
 use Rattle.std.proofs.lemmas.Bool.{ne_eqb, eqb-true, cases_eq}
 use Rattle.std.proofs.lemmas.List.{get_or_default, get_or_append_left}
@@ -34,7 +35,8 @@ collected (suc n) P each =
     ]
 
 -- different numbers below m, one for each place below n, are at most m
-pub at_most : (n m : ℕ) (P : ℕ → ℕ → Type 0) → ((k : ℕ) → k < n → (q : ℕ) × P k q) → ((k q : ℕ) → k < n → P k q → q < m)
+pub at_most : (n m : ℕ) (P : ℕ → ℕ → Type 0) → ((k : ℕ) → k < n → (q : ℕ) × P k q)
+    → ((k q : ℕ) → k < n → P k q → q < m)
     → ((j k q : ℕ) → P j q → P k q → j ≡ k) → n ≤ m
 at_most n m P each below once =
     let found = collected n P each in
@@ -49,7 +51,8 @@ at_most n m P each below once =
         let places = once i j (get_or qs j 0) (subst (P i) one here) there in
         omega arith))
 
-    bounded : (qs : List ℕ) → length qs ≡ n → ((k : ℕ) → k < n → P k (get_or qs k 0)) → (q : ℕ) → list_any (eqb q) qs ≡ true → q < m
+    bounded : (qs : List ℕ) → length qs ≡ n → ((k : ℕ) → k < n → P k (get_or qs k 0)) → (q : ℕ)
+        → list_any (eqb q) qs ≡ true → q < m
     bounded qs long is q among =
         let place = Any-from_list_any (eqb q) qs among in
         let same : q ≡ get_or qs place.0 0 = eqb-true q place.1 place.4 ∙ sym place.3 ∙ get_or_default qs place.0 place.1 0 place.2 in

@@ -7,7 +7,8 @@ use Rattle.std.specs.Prelude.{AllPairs, Contains, filter, filter_map, option_map
 use Rattle.std.specs.List.{last_or}
 use Rattle.std.proofs.lemmas.Bool.{cases_Bool}
 use Rattle.std.proofs.lemmas.List.{append_assoc}
-use Rattle.std.proofs.lemmas.List.Elements.{Contains-append_cases, Contains-append_left, Contains-append_right, Contains-get_or}
+use Rattle.std.proofs.lemmas.List.Elements.{Contains-append_cases, Contains-append_left, Contains-append_right}
+use Rattle.std.proofs.lemmas.List.Elements.{Contains-get_or}
 use Rattle.std.proofs.lemmas.List.Kept.{AllPairs-filter}
 use Rattle.std.proofs.lemmas.Option.{slice_get-map}
 use Rattle.event_records.specs.declared.event.Event.{Event}
@@ -26,36 +27,47 @@ use Rattle.history_merge.proofs.Timelines.{timeline_is_complete}
 use Rattle.verdicts.proofs.Exactly.{linearizable_without, violation_excludes_order}
 use Rattle.completions.specs.declared.answers.Answer.{Answer}
 use Rattle.completions.specs.Pending.{IsCompletion, IsDeciding, IsHistoryFrom, IsPendingCall}
-use Rattle.completions.specs.Completed.{is_answered, answers_to, calls_dequeue, completed, enqueue_answer, is_given, is_left_out, left_values}
+use Rattle.completions.specs.Completed.{is_answered, answers_to, calls_dequeue, completed, enqueue_answer, is_given}
+use Rattle.completions.specs.Completed.{is_left_out, left_values}
 use Rattle.completions.specs.Completed.{next_ticket, paired, pending_calls, returns_from, is_pending}
-use Rattle.completions.proofs.Followed.{keeping, last_above, last_in, last_of, last_of-append, one_by_ticket, operations_keep, operations_made, pending_is_last}
+use Rattle.completions.proofs.Followed.{keeping, last_above, last_in, last_of, last_of-append, one_by_ticket}
+use Rattle.completions.proofs.Followed.{operations_keep, operations_made, pending_is_last}
 use Rattle.completions.proofs.Completing.{completed_or_ended, same_operations}
-use Rattle.completions.proofs.Whole.{after_last, test_of_pending, AreAnswers, below_next, is_answer, is_complete, no_return, only_pending}
-use Rattle.completions.proofs.Whole.{only_returns, pairs_across, pairs_made, pending_by_test, return_of, returns-append, tickets_rise}
-use Rattle.completions.proofs.Answering.{enqueue_answer_is, enqueue_answered, taken_rises, value_in, given_by, given_value_is, left_are}
-use Rattle.completions.proofs.Answering.{left_enqueues, OtherThread, paired_apart, paired_at, paired_from, taken_all, taken_from, taken_in, value_of}
+use Rattle.completions.proofs.Whole.{after_last, test_of_pending, AreAnswers, below_next, is_answer, is_complete}
+use Rattle.completions.proofs.Whole.{no_return, only_pending}
+use Rattle.completions.proofs.Whole.{only_returns, pairs_across, pairs_made, pending_by_test, return_of}
+use Rattle.completions.proofs.Whole.{returns-append, tickets_rise}
+use Rattle.completions.proofs.Answering.{enqueue_answer_is, enqueue_answered, taken_rises, value_in, given_by}
+use Rattle.completions.proofs.Answering.{given_value_is, left_are}
+use Rattle.completions.proofs.Answering.{left_enqueues, OtherThread, paired_apart, paired_at, paired_from, taken_all}
+use Rattle.completions.proofs.Answering.{taken_from, taken_in, value_of}
 use Rattle.completions.proofs.Deciding.{Chosen, Completes, Ends, EnqueuesGiven, GivesLeft, NoViolation, ours_has_none}
 use Rattle.completions.proofs.Whole.{and_false}
-use Rattle.history_merge.proofs.Lists.{kept, keeps, mapped_from, mapped_to, passes_filter, passed_filter, pairs_append, pairs_map}
+use Rattle.history_merge.proofs.Lists.{kept, keeps, mapped_from, mapped_to, passes_filter, passed_filter, pairs_append}
+use Rattle.history_merge.proofs.Lists.{pairs_map}
 
 -- ---- the timeline
 
 -- an operation by time is an enqueue of an initial value, or an operation of the history at the times of its tickets
-in_timeline : (initial : List ℕ) (operations : List Operation) (o : Operation) → Contains (timeline initial operations) o
+in_timeline : (initial : List ℕ) (operations : List Operation) (o : Operation)
+    → Contains (timeline initial operations) o
     → Contains (initial_enqueues initial) o ⊎ ((p : Operation) × Contains operations p × (later_by ORIGIN p ≡ o))
 in_timeline initial operations o among = elim (Contains-append_cases (initial_enqueues initial) (map (later_by ORIGIN) operations) o among) [
   | inl first ↦ inl first
   | inr later ↦ let p = mapped_from (later_by ORIGIN) operations o later in inr (p.0, p.1, p.2)
 ]
 
-first_there : (initial : List ℕ) (operations : List Operation) (o : Operation) → Contains (initial_enqueues initial) o → Contains (timeline initial operations) o
+first_there : (initial : List ℕ) (operations : List Operation) (o : Operation) → Contains (initial_enqueues initial) o
+    → Contains (timeline initial operations) o
 first_there initial operations o among = Contains-append_left (initial_enqueues initial) (map (later_by ORIGIN) operations) o among
 
-later_there : (initial : List ℕ) (operations : List Operation) (p : Operation) → Contains operations p → Contains (timeline initial operations) (later_by ORIGIN p)
+later_there : (initial : List ℕ) (operations : List Operation) (p : Operation) → Contains operations p
+    → Contains (timeline initial operations) (later_by ORIGIN p)
 later_there initial operations p among =
     Contains-append_right (initial_enqueues initial) (map (later_by ORIGIN) operations) (later_by ORIGIN p) (mapped_to (later_by ORIGIN) operations p among)
 
-enqueue_in : (n : ℕ) (values : List ℕ) (o : Operation) → Contains (enqueues_from n values) o → ((v : ℕ) × (o.kind ≡ Enqueue v)) × (o.ret < n + length values)
+enqueue_in : (n : ℕ) (values : List ℕ) (o : Operation) → Contains (enqueues_from n values) o
+    → ((v : ℕ) × (o.kind ≡ Enqueue v)) × (o.ret < n + length values)
 enqueue_in n [] o among = absurd (not_in_none o among)
 enqueue_in n (v ∷ values) o among =
     let first : Operation = record { call = n; ret = n; thread = 0; kind = Enqueue v } in
@@ -72,7 +84,8 @@ enqueues_rise n (v ∷ values) zero zero d below inside = absurd (omega arith)
 enqueues_rise n (v ∷ values) zero (suc j) d below inside =
     let least = all_from (n + 1) values j d (omega arith) in omega (arith, least)
   where
-    all_from : (m : ℕ) (vs : List ℕ) (k : ℕ) (e : Operation) → k < length (enqueues_from m vs) → m ≤ (get_or (enqueues_from m vs) k e).ret
+    all_from : (m : ℕ) (vs : List ℕ) (k : ℕ) (e : Operation) → k < length (enqueues_from m vs)
+        → m ≤ (get_or (enqueues_from m vs) k e).ret
     all_from m [] k e within = absurd (omega arith)
     all_from m (w ∷ vs) zero e within = omega arith
     all_from m (w ∷ vs) (suc k) e within = let more = all_from (m + 1) vs k e (omega arith) in omega (arith, more)
@@ -93,7 +106,8 @@ calls_dequeue_is e is = by_what e.what refl is
 dequeue_is_called : (e : Event) → e.what ≡ CallDeq → calls_dequeue e ≡ true
 dequeue_is_called e what = subst (λ (w : What). (elim w [ CallDeq ↦ true | _ ↦ false ]) ≡ true) (sym what) refl
 
-module _ (initial : List ℕ) (events : List Event) (history : IsHistoryFrom initial events) (few_initial : length initial ≤ MAX_INITIAL) where
+module _ (initial : List ℕ) (events : List Event) (history : IsHistoryFrom initial events)
+    (few_initial : length initial ≤ MAX_INITIAL) where
   -- a thread has one pending call
   same_pending : (c d : Event) → IsPendingCall events c → IsPendingCall events d → c.thread ≡ d.thread → c ≡ d
   same_pending c d is_c is_d same =
@@ -124,7 +138,8 @@ module _ (initial : List ℕ) (events : List Event) (history : IsHistoryFrom ini
   dequeue_calls = filter calls_dequeue (pending_calls events)
 
   in_enqueue_answers : (a : Answer) → Contains enqueue_answers a
-      → Contains events a.call × IsPendingCall events a.call × ((v : ℕ) × (a.call.what ≡ CallEnq v) × (is_given events v ≡ true) × (a.what ≡ RetEnq))
+      → Contains events a.call × IsPendingCall events a.call
+      × ((v : ℕ) × (a.call.what ≡ CallEnq v) × (is_given events v ≡ true) × (a.what ≡ RetEnq))
   in_enqueue_answers a among =
       let from = kept (enqueue_answer events) (pending_calls events) a among in
       let is = enqueue_answer_is events from.0 a from.2 in
@@ -184,19 +199,22 @@ module _ (initial : List ℕ) (events : List Event) (history : IsHistoryFrom ini
   dequeuing = map time_of_call dequeue_calls
 
   -- a pending dequeue is one of the pending dequeue calls
-  dequeue_pends : (call : Event) → Contains events call → IsPendingCall events call → call.what ≡ CallDeq → Contains dequeue_calls call
+  dequeue_pends : (call : Event) → Contains events call → IsPendingCall events call → call.what ≡ CallDeq
+      → Contains dequeue_calls call
   dequeue_pends call among pending what =
       passes_filter calls_dequeue (pending_calls events) call (dequeue_is_called call what)
       (passes_filter (is_pending events) events call (test_of_pending initial events history call pending) among)
 
   -- a pending call with any return ends
-  ends : (call r : Event) (p : Operation) → Contains events call → IsPendingCall events call → operation_of call (Some r) ≡ Some p
+  ends : (call r : Event) (p : Operation) → Contains events call → IsPendingCall events call
+      → operation_of call (Some r) ≡ Some p
       → Ends done Enqueuing dequeuing (later_by ORIGIN p)
   ends call r p among pending made =
       let of = made_of call (Some r) p made in
       by_call call.what of.0.what p.kind refl of.2.kind (ap (λ n. n + ORIGIN) of.2.called)
     where
-      by_call : (w a : What) (k : OpKind) → call.what ≡ w → kind_of w a ≡ Some k → p.call + ORIGIN ≡ call.ticket + ORIGIN
+      by_call : (w a : What) (k : OpKind) → call.what ≡ w → kind_of w a ≡ Some k
+          → p.call + ORIGIN ≡ call.ticket + ORIGIN
           → ((v : ℕ) × Enqueuing (p.call + ORIGIN) v × ((k ≡ Enqueue v) ⊎ (k ≡ EnqueueFailed v)))
           ⊎ (Contains dequeuing (p.call + ORIGIN) × (((v : ℕ) × (k ≡ Dequeue v)) ⊎ (k ≡ DequeueEmpty)))
       by_call (CallEnq v) RetEnq k what is time = let e : Some (Enqueue v) ≡ Some k = is in inl (v, (call, among, pending, what, sym time), inl cc)
@@ -219,7 +237,8 @@ module _ (initial : List ℕ) (events : List Event) (history : IsHistoryFrom ini
       by_call RetEmpty a k what is time = cc
 
   -- each completion completes these operations
-  completes : (full : List Event) → IsCompletion initial events full → Completes done Enqueuing dequeuing (timeline initial (operations_of full))
+  completes : (full : List Event) → IsCompletion initial events full
+      → Completes done Enqueuing dequeuing (timeline initial (operations_of full))
   completes full completion = record {
     complete = timeline_is_complete initial full completion.is_complete few_initial;
     keeps = λ o among. elim (in_timeline initial (operations_of events) o among) [
@@ -252,7 +271,8 @@ module _ (initial : List ℕ) (events : List Event) (history : IsHistoryFrom ini
     ours = completed initial events
 
     -- an answered call stays the last of its thread
-    last_of_answered : (a : Answer) → Contains answered a → last_of a.call.thread (keeping left_out events) ≡ Some a.call
+    last_of_answered : (a : Answer) → Contains answered a
+        → last_of a.call.thread (keeping left_out events) ≡ Some a.call
     last_of_answered a among =
         let pending = are.pending a among in
         let gone : left_out a.call ≡ false = and_false (is_pending events a.call) (is_answered answered a.call) (is_answer initial events history answered are few a among) in
@@ -349,13 +369,15 @@ module _ (initial : List ℕ) (events : List Event) (history : IsHistoryFrom ini
         false_of_not true is = cc
         false_of_not false is = refl
 
-        not_given : (x : Operation) (v : ℕ) → x.kind ≡ Enqueue v → not (is_given events (value_of x)) ≡ true → is_given events v ≡ false
+        not_given : (x : Operation) (v : ℕ) → x.kind ≡ Enqueue v → not (is_given events (value_of x)) ≡ true
+            → is_given events v ≡ false
         not_given x v kind is = ap (is_given events) (sym (ap value_in kind)) ∙ false_of_not (is_given events (value_of x)) is
 
     none_dequeued : (v : ℕ) → is_given events v ≡ false → NoneDid done (Dequeue v)
     none_dequeued v not_given o among kind = let clash : true ≡ false = sym (given_if_done o v (among, kind)) ∙ not_given in cc
 
-    left_value : (i v : ℕ) → slice_get (left_values initial events) i ≡ Some v → (x : Operation) × (slice_get left i ≡ Some x) × (x.kind ≡ Enqueue v)
+    left_value : (i v : ℕ) → slice_get (left_values initial events) i ≡ Some v
+        → (x : Operation) × (slice_get left i ≡ Some x) × (x.kind ≡ Enqueue v)
     left_value i v at =
         let mapped : option_map value_of (slice_get left i) ≡ Some v =
         sym (slice_get-map value_of left i) ∙ ap (λ (vs : List ℕ). slice_get vs i) (left_are initial events) ∙ at in
@@ -370,7 +392,8 @@ module _ (initial : List ℕ) (events : List Event) (history : IsHistoryFrom ini
             let values : known.0 ≡ v = sym (ap value_in known.1.1) ∙ same in
             (x, here, known.1.1 ∙ ap (λ w. Enqueue w) values)
 
-    value_left : (i v : ℕ) (x : Operation) → slice_get left i ≡ Some x → x.kind ≡ Enqueue v → slice_get (left_values initial events) i ≡ Some v
+    value_left : (i v : ℕ) (x : Operation) → slice_get left i ≡ Some x → x.kind ≡ Enqueue v
+        → slice_get (left_values initial events) i ≡ Some v
     value_left i v x at kind =
         ap (λ (vs : List ℕ). slice_get vs i) (sym (left_are initial events)) ∙ slice_get-map value_of left i
         ∙ ap (option_map value_of) at ∙ ap (λ w. Some w) (ap value_in kind)
@@ -378,9 +401,12 @@ module _ (initial : List ℕ) (events : List Event) (history : IsHistoryFrom ini
     -- ---- the chosen completion
 
     -- an added return ends an enqueue of a given value, or a dequeue of a value that is left
-    added : (call r : Event) (p : Operation) → Contains events call → IsPendingCall events call → Contains rets r → call.thread ≡ r.thread
+    added : (call r : Event) (p : Operation) → Contains events call → IsPendingCall events call → Contains rets r
+        → call.thread ≡ r.thread
         → operation_of call (Some r) ≡ Some p
-        → (last < p.ret + ORIGIN) × (EnqueuesGiven done Enqueuing dequeuing (later_by ORIGIN p) ⊎ ((v : ℕ) × GivesLeft done Enqueuing dequeuing left (later_by ORIGIN p) v))
+        → (last < p.ret + ORIGIN)
+        × (EnqueuesGiven done Enqueuing dequeuing (later_by ORIGIN p)
+        ⊎ ((v : ℕ) × GivesLeft done Enqueuing dequeuing left (later_by ORIGIN p) v))
     added call r p among pending in_rets threads made =
         let found = return_of (next_ticket events) answered r in_rets in
         let one = same_pending call found.0.call pending (are.pending found.0 found.1).1 (threads ∙ found.2) in
@@ -492,10 +518,12 @@ module _ (initial : List ℕ) (events : List Event) (history : IsHistoryFrom ini
           omega (arith, less));
     }
       where
-        call_at : (i time : ℕ) → slice_get dequeuing i ≡ Some time → (c : Event) × (slice_get dequeue_calls i ≡ Some c) × (time_of_call c ≡ time)
+        call_at : (i time : ℕ) → slice_get dequeuing i ≡ Some time
+            → (c : Event) × (slice_get dequeue_calls i ≡ Some c) × (time_of_call c ≡ time)
         call_at i time at = by_found (slice_get dequeue_calls i) refl (sym (slice_get-map time_of_call dequeue_calls i) ∙ at)
           where
-            by_found : (found : Option Event) → slice_get dequeue_calls i ≡ found → option_map time_of_call found ≡ Some time
+            by_found : (found : Option Event) → slice_get dequeue_calls i ≡ found
+                → option_map time_of_call found ≡ Some time
                 → (c : Event) × (slice_get dequeue_calls i ≡ Some c) × (time_of_call c ≡ time)
             by_found None here is = cc
             by_found (Some c) here is = (c, here, (let e : Some (time_of_call c) ≡ Some time = is in cc))

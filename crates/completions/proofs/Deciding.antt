@@ -1,5 +1,6 @@
 -- Each violation of the chosen completion is one of every completion. So the chosen one decides.
-use Rattle.std.proofs.Common.{◌≡◌, ℕ, zero, suc, ◌<◌, ◌≤◌, ◌⊎◌, inl, inr, List, [], ◌∷◌, length, Option, Some, None, refl, ap, sym, subst, ◌∙◌, arith}
+use Rattle.std.proofs.Common.{◌≡◌, ℕ, zero, suc, ◌<◌, ◌≤◌, ◌⊎◌, inl, inr, List, [], ◌∷◌, length, Option, Some, None}
+use Rattle.std.proofs.Common.{refl, ap, sym, subst, ◌∙◌, arith}
 use Rattle.std.specs.Prelude.{AllPairs, Contains, MatchOption, find, slice_get}
 use Rattle.std.proofs.lemmas.Bool.{cases_lt, cases_eq}
 use Rattle.std.proofs.lemmas.Option.{slice_get_within}
@@ -8,14 +9,17 @@ use Rattle.history_merge.specs.declared.operation.OpKind.{OpKind}
 use Rattle.history_merge.specs.declared.operation.OpKind.TheVariants.{Enqueue, Dequeue, DequeueEmpty, EnqueueFailed}
 use Rattle.history_merge.specs.Complete.{AreComplete}
 use Rattle.history_merge.specs.Operations.{Did, NoneDid}
-use Rattle.history_merge.proofs.Distinct.{call_by_return, CallsFor, contains_at, contains_cons, not_in_none, one_at, one_by_key, pairs_at, place_of}
+use Rattle.history_merge.proofs.Distinct.{call_by_return, CallsFor, contains_at, contains_cons, not_in_none, one_at}
+use Rattle.history_merge.proofs.Distinct.{one_by_key, pairs_at, place_of}
 use Rattle.history_merge.proofs.Distinct.{no_enqueue, return_in_range, same_call, same_enqueue, same_value_call}
 use Rattle.value_match.specs.declared.life.Life.{Life}
 use Rattle.value_match.specs.declared.life.TheConstants.{NEVER}
 use Rattle.value_match.specs.Inner.Courses.{on}
-use Rattle.value_match.specs.Lives.{call_or_never, return_or_never, Covers, dequeue_call, dequeue_of, dequeue_return, enqueue_of}
+use Rattle.value_match.specs.Lives.{call_or_never, return_or_never, Covers, dequeue_call, dequeue_of, dequeue_return}
+use Rattle.value_match.specs.Lives.{enqueue_of}
 use Rattle.value_match.specs.Lives.{is_dequeue_of, IsFreeGap, IsLife}
-use Rattle.value_match.specs.Violations.{CoversFrom, fresh, FullViolation, IsClear, IsEnqueuedTooLate, IsNeverEnqueued, IsOrderViolation, IsRepeatViolation}
+use Rattle.value_match.specs.Violations.{CoversFrom, fresh, FullViolation, IsClear, IsEnqueuedTooLate, IsNeverEnqueued}
+use Rattle.value_match.specs.Violations.{IsOrderViolation, IsRepeatViolation}
 use Rattle.value_match.specs.Violations.{IsViolationOf, IsWitnessViolation, order, repeat, witness}
 use Rattle.value_match.proofs.Lives.{dequeued_if_called, found_dequeue}
 use Rattle.order_violation.proofs.Chosen.{did_dequeue}
@@ -28,7 +32,8 @@ abbrev pub NoViolation : List Operation → Type 0
 NoViolation operations = (violation : FullViolation) → ¬ (IsViolationOf (on operations) violation)
 
 -- an operation of this kind calls to enqueue the value, or doesn't
-calls_or_not : (v : ℕ) (k : OpKind) → ((k ≡ Enqueue v) ⊎ (k ≡ EnqueueFailed v)) ⊎ ¬ ((k ≡ Enqueue v) ⊎ (k ≡ EnqueueFailed v))
+calls_or_not : (v : ℕ) (k : OpKind)
+    → ((k ≡ Enqueue v) ⊎ (k ≡ EnqueueFailed v)) ⊎ ¬ ((k ≡ Enqueue v) ⊎ (k ≡ EnqueueFailed v))
 calls_or_not v (Enqueue w) = elim (cases_eq w v) [
   | inl same ↦ inl (inl (ap (λ u. Enqueue u) same))
   | inr other ↦ inr (λ is. elim is [ inl e ↦ other (cc e) | inr e ↦ cc e ])
@@ -41,7 +46,8 @@ calls_or_not v (Dequeue w) = inr (λ is. elim is [ inl e ↦ cc e | inr e ↦ cc
 calls_or_not v DequeueEmpty = inr (λ is. elim is [ inl e ↦ cc e | inr e ↦ cc e ])
 
 pub call_for : (operations : List Operation) (v : ℕ)
-    → ((o : Operation) × Contains operations o × CallsFor o v) ⊎ ((o : Operation) → Contains operations o → ¬ (CallsFor o v))
+    → ((o : Operation) × Contains operations o × CallsFor o v)
+    ⊎ ((o : Operation) → Contains operations o → ¬ (CallsFor o v))
 call_for [] v = inr (λ o among. absurd (not_in_none o among))
 call_for (x ∷ rest) v = elim (calls_or_not v x.kind) [
   | inl is ↦ inl (x, (zero, omega arith, refl), is)
@@ -67,7 +73,8 @@ within_none (d ∷ cs) zero q c none at = let clash : Some d ≡ None = none in 
 within_none (d ∷ cs) (suc i) zero c none at = omega arith
 within_none (d ∷ cs) (suc i) (suc q) c none at = let less = within_none cs i q c none at in omega arith
 
-by_place : {X : Type 0} (key : X → ℕ) (xs : List X) (i k : ℕ) (x y : X) → AllPairs (λ a b. key a < key b) xs → slice_get xs i ≡ Some x
+by_place : {X : Type 0} (key : X → ℕ) (xs : List X) (i k : ℕ) (x y : X) → AllPairs (λ a b. key a < key b) xs
+    → slice_get xs i ≡ Some x
     → slice_get xs k ≡ Some y → k ≤ i → key y ≤ key x
 by_place key xs i k x y rise at_x at_y near = elim (cases_eq k i) [
   | inl same ↦ let one = ap key (one_at xs i y x (subst (λ n. slice_get xs n ≡ Some y) same at_y) at_x) in omega (arith, one)
@@ -78,7 +85,8 @@ same_value : (u w : ℕ) (c d : Operation) → c ≡ d → c.kind ≡ Dequeue u 
 same_value u w c d one is_c is_d = let e : Dequeue u ≡ Dequeue w = sym is_c ∙ ap (λ (o : Operation). o.kind) one ∙ is_d in cc
 
 -- at each gap from the frontier on, some value of a cover is in the queue
-covered_at : (operations : List Operation) (empty : Operation) (cover : List Life) (frontier gap : ℕ) → CoversFrom (on operations) empty frontier cover
+covered_at : (operations : List Operation) (empty : Operation) (cover : List Life) (frontier gap : ℕ)
+    → CoversFrom (on operations) empty frontier cover
     → frontier ≤ gap → gap < empty.ret → (life : Life) × IsLife (on operations) life × Covers life gap
 covered_at operations empty [] frontier gap covers from before = absurd covers
 covered_at operations empty (life ∷ []) frontier gap covers from before =
@@ -116,9 +124,12 @@ module _ (done : List Operation) (Enqueuing : ℕ → ℕ → Type 0) (dequeuing
   pub record Chosen (left : List Operation) (last : ℕ) (ours : List Operation) : Type 0 where
     pub complete : AreComplete ours
     pub keeps : (o : Operation) → Contains done o → Contains ours o
-    pub from : (o : Operation) → Contains ours o → Contains done o ⊎ ((last < o.ret) × (EnqueuesGiven o ⊎ ((v : ℕ) × GivesLeft left o v)))
-    pub has_enqueue : (call v : ℕ) (d : Operation) → Enqueuing call v → Did done d (Dequeue v) → (o : Operation) × Did ours o (Enqueue v) × (o.call ≡ call)
-    pub has_dequeue : (i call v : ℕ) (x : Operation) → slice_get dequeuing i ≡ Some call → slice_get left i ≡ Some x → x.kind ≡ Enqueue v
+    pub from : (o : Operation) → Contains ours o
+        → Contains done o ⊎ ((last < o.ret) × (EnqueuesGiven o ⊎ ((v : ℕ) × GivesLeft left o v)))
+    pub has_enqueue : (call v : ℕ) (d : Operation) → Enqueuing call v → Did done d (Dequeue v)
+        → (o : Operation) × Did ours o (Enqueue v) × (o.call ≡ call)
+    pub has_dequeue : (i call v : ℕ) (x : Operation) → slice_get dequeuing i ≡ Some call → slice_get left i ≡ Some x
+        → x.kind ≡ Enqueue v
         → (o : Operation) × Did ours o (Dequeue v) × (o.call ≡ call)
     pub returned : (o : Operation) → Contains done o → o.ret ≤ last
     pub enqueue_called : (call v : ℕ) → Enqueuing call v → call ≤ last
@@ -150,7 +161,8 @@ module _ (done : List Operation) (Enqueuing : ℕ → ℕ → Type 0) (dequeuing
     is_done o among early = elim (chosen.from o among) [ inl old ↦ old | inr (late, _) ↦ absurd (omega (arith, late, early)) ]
 
     -- a value that is left has one place
-    left_once : (i j v : ℕ) (x y : Operation) → slice_get left i ≡ Some x → slice_get left j ≡ Some y → x.kind ≡ Enqueue v → y.kind ≡ Enqueue v → i ≡ j
+    left_once : (i j v : ℕ) (x y : Operation) → slice_get left i ≡ Some x → slice_get left j ≡ Some y
+        → x.kind ≡ Enqueue v → y.kind ≡ Enqueue v → i ≡ j
     left_once i j v x y at_x at_y is_x is_y =
         let in_x = (chosen.left_is x (contains_at left i x at_x)).1.0 in
         let in_y = (chosen.left_is y (contains_at left j y at_y)).1.0 in
@@ -158,14 +170,16 @@ module _ (done : List Operation) (Enqueuing : ℕ → ℕ → Type 0) (dequeuing
         (one_by_key (λ (o : Operation). o.ret) left i j x y chosen.left_rises at_x at_y (ap (λ (o : Operation). o.ret) one)).0
 
     -- a value that is left is given by one dequeue
-    one_gives : (o p : Operation) (v : ℕ) → Contains ours o → Contains ours p → GivesLeft left o v → GivesLeft left p v → o ≡ p
+    one_gives : (o p : Operation) (v : ℕ) → Contains ours o → Contains ours p → GivesLeft left o v → GivesLeft left p v
+        → o ≡ p
     one_gives o p v in_o in_p gives_o gives_p =
         let same = left_once gives_o.0 gives_p.0 v gives_o.1 gives_p.1 gives_o.3 gives_p.3 gives_o.4 gives_p.4 in
         let calls = one_at dequeuing gives_p.0 o.call p.call (subst (λ i. slice_get dequeuing i ≡ Some o.call) same gives_o.2) gives_p.2 in
         same_call ours o p chosen.complete in_o in_p calls
 
     -- a dequeue of a value that was left when the calls were pending
-    gives_it : (d : Operation) (v : ℕ) → Did ours d (Dequeue v) → (Did done d (Dequeue v)) ⊎ ((last < d.ret) × GivesLeft left d v)
+    gives_it : (d : Operation) (v : ℕ) → Did ours d (Dequeue v)
+        → (Did done d (Dequeue v)) ⊎ ((last < d.ret) × GivesLeft left d v)
     gives_it d v did = elim (chosen.from d did.0) [
       | inl old ↦ inl (old, did.1)
       | inr (late, inl given) ↦ let e = given.2 in let f = did.1 in let clash : Enqueue given.0 ≡ Dequeue v = sym e ∙ f in cc
@@ -175,7 +189,8 @@ module _ (done : List Operation) (Enqueuing : ℕ → ℕ → Type 0) (dequeuing
     ]
 
     -- a dequeue of a value that is left ends a pending call, in each completion
-    ends_pending : (d : Operation) (v : ℕ) → Did full d (Dequeue v) → NoneDid done (Dequeue v) → (q : ℕ) × (slice_get dequeuing q ≡ Some d.call)
+    ends_pending : (d : Operation) (v : ℕ) → Did full d (Dequeue v) → NoneDid done (Dequeue v)
+        → (q : ℕ) × (slice_get dequeuing q ≡ Some d.call)
     ends_pending d v did not_done = elim (is.from d did.0) [
       | inl old ↦ absurd (not_done d old did.1)
       | inr (inl (w, enqueuing, inl e)) ↦ let f = did.1 in let clash : Enqueue w ≡ Dequeue v = sym e ∙ f in cc
@@ -222,7 +237,8 @@ module _ (done : List Operation) (Enqueuing : ℕ → ℕ → Type 0) (dequeuing
           let values = same_value a.1 b.1 a.2 b.2 one a.5.1 b.5.1 in
           left_once j k b.1 a.0 b.0 a.3 b.3 (subst (λ (u : ℕ). a.0.kind ≡ Enqueue u) values a.4.1) b.4.1
 
-      before_late : (i q call c : ℕ) → time < call → slice_get dequeuing i ≡ Some call → slice_get dequeuing q ≡ Some c → c ≤ time → q < i
+      before_late : (i q call c : ℕ) → time < call → slice_get dequeuing i ≡ Some call → slice_get dequeuing q ≡ Some c
+          → c ≤ time → q < i
       before_late i q call c late here at by = elim (cases_lt q i) [
         | inl below ↦ below
         | inr near ↦ let less = by_place (λ (n : ℕ). n) dequeuing q i c call chosen.calls_rise at here near in absurd (omega (arith, less))
@@ -252,7 +268,8 @@ module _ (done : List Operation) (Enqueuing : ℕ → ℕ → Type 0) (dequeuing
 
     -- a value that the other completion enqueues, and a completed dequeue gave, is enqueued by the same call in the
     -- chosen one
-    ours_enqueues : (e d : Operation) (v : ℕ) → Did done d (Dequeue v) → Did full e (Enqueue v) → (o : Operation) × Did ours o (Enqueue v) × (o.call ≡ e.call)
+    ours_enqueues : (e d : Operation) (v : ℕ) → Did done d (Dequeue v) → Did full e (Enqueue v)
+        → (o : Operation) × Did ours o (Enqueue v) × (o.call ≡ e.call)
     ours_enqueues e d v did_d did_e = elim (is.from e did_e.0) [
       | inl old ↦ (e, (chosen.keeps e old, did_e.1), refl)
       | inr (inl (w, enqueuing, inl k)) ↦
@@ -263,7 +280,8 @@ module _ (done : List Operation) (Enqueuing : ℕ → ℕ → Type 0) (dequeuing
       | inr (inr (among, inr k)) ↦ let f : DequeueEmpty ≡ Enqueue v = sym k ∙ did_e.1 in cc
     ]
 
-    called_at_once : (enq e d : Operation) (v : ℕ) → Did done d (Dequeue v) → Did ours enq (Enqueue v) → Did full e (Enqueue v) → e.call ≡ enq.call
+    called_at_once : (enq e d : Operation) (v : ℕ) → Did done d (Dequeue v) → Did ours enq (Enqueue v)
+        → Did full e (Enqueue v) → e.call ≡ enq.call
     called_at_once enq e d v did_d did_enq did_e =
         let o = ours_enqueues e d v did_d did_e in
         let one = same_enqueue ours o.0 enq v chosen.complete o.1 did_enq in
@@ -283,7 +301,8 @@ module _ (done : List Operation) (Enqueuing : ℕ → ℕ → Type 0) (dequeuing
     ]
 
     -- a value that is left was enqueued, and no completed dequeue gave it
-    untaken : (i v : ℕ) (x : Operation) → slice_get left i ≡ Some x → x.kind ≡ Enqueue v → Did done x (Enqueue v) × NoneDid done (Dequeue v)
+    untaken : (i v : ℕ) (x : Operation) → slice_get left i ≡ Some x → x.kind ≡ Enqueue v
+        → Did done x (Enqueue v) × NoneDid done (Dequeue v)
     untaken i v x at is_x =
         let known = chosen.left_is x (contains_at left i x at) in
         let values : known.0 ≡ v = let e : Enqueue known.0 ≡ Enqueue v = sym known.1.1 ∙ is_x in cc in
@@ -400,7 +419,8 @@ module _ (done : List Operation) (Enqueuing : ℕ → ℕ → Type 0) (dequeuing
           | inr by ↦ by
         ]
 
-        pending_gave : NoneDid done (Dequeue bad.is_a.0) → (o : Operation) × Did ours o (Dequeue bad.is_a.0) × GivesLeft left o bad.is_a.0 × (o.call ≤ d.ret)
+        pending_gave : NoneDid done (Dequeue bad.is_a.0)
+            → (o : Operation) × Did ours o (Dequeue bad.is_a.0) × GivesLeft left o bad.is_a.0 × (o.call ≤ d.ret)
         pending_gave not_taken = taken_by (enqueue_of a) bad.is_a.0 d.ret (old_a, bad.is_a.1.1) not_taken low gone_by_then
 
         overtaken_by_old : (found : Option Operation) → dequeue_of a ≡ found
@@ -473,7 +493,8 @@ module _ (done : List Operation) (Enqueuing : ℕ → ℕ → Type 0) (dequeuing
           | inr by ↦ by
         ]
 
-        given_by_gap : NoneDid done (Dequeue life_is.0) → (o : Operation) × Did ours o (Dequeue life_is.0) × GivesLeft left o life_is.0 × (o.call ≤ gap)
+        given_by_gap : NoneDid done (Dequeue life_is.0)
+            → (o : Operation) × Did ours o (Dequeue life_is.0) × GivesLeft left o life_is.0 × (o.call ≤ gap)
         given_by_gap not_taken = taken_by (enqueue_of life) life_is.0 gap (old_life, life_is.1.1) not_taken low_gap gone_at_gap
 
         not_covered : (found : Option Operation) → dequeue_of life ≡ found

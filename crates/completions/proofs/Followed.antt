@@ -1,5 +1,6 @@
 -- The operations after one more event, and after events are removed.
-use Rattle.std.proofs.Common.{◌≡◌, ℕ, zero, suc, ◌<◌, ◌≤◌, ◌⊎◌, ◌++◌, inl, inr, Bool, true, false, not, List, [], ◌∷◌, length, Option, Some, None}
+use Rattle.std.proofs.Common.{◌≡◌, ℕ, zero, suc, ◌<◌, ◌≤◌, ◌⊎◌, ◌++◌, inl, inr, Bool, true, false, not, List, [], ◌∷◌}
+use Rattle.std.proofs.Common.{length, Option, Some, None}
 use Rattle.std.proofs.Common.{refl, ap, sym, subst, ◌∙◌, arith}
 use Rattle.std.specs.Prelude.{Contains, filter, find, nat_eq, option_and_then, ⊤}
 use Rattle.std.specs.List.{cons_option, last_or}
@@ -39,7 +40,8 @@ last_or-none {X} (y ∷ xs) is = absurd (begun xs y is)
     begun (w ∷ ys) z e = begun ys w e
 
 -- an event before others of its thread isn't the last
-pub last_of-cons : (x : Event) (xs : List Event) (thread : ℕ) (l : Event) → last_of thread xs ≡ Some l → last_of thread (x ∷ xs) ≡ Some l
+pub last_of-cons : (x : Event) (xs : List Event) (thread : ℕ) (l : Event) → last_of thread xs ≡ Some l
+    → last_of thread (x ∷ xs) ≡ Some l
 last_of-cons x xs thread l is = elim (cases_Bool (nat_eq x.thread thread)) [
   | inl own ↦ rw own (last_or-some (Some x) (projection thread xs) l is)
   | inr other ↦ rw other is
@@ -49,18 +51,21 @@ last_of-cons x xs thread l is = elim (cases_Bool (nat_eq x.thread thread)) [
 pub last_of-own : (x : Event) (xs : List Event) → last_of x.thread xs ≡ None → last_of x.thread (x ∷ xs) ≡ Some x
 last_of-own x xs none = let own = eq-eqb x.thread x.thread refl in let nil = last_or-none (projection x.thread xs) none in rw (own, nil) refl
 
-pub last_of-other : (x : Event) (xs : List Event) (thread : ℕ) → nat_eq x.thread thread ≡ false → last_of thread (x ∷ xs) ≡ last_of thread xs
+pub last_of-other : (x : Event) (xs : List Event) (thread : ℕ) → nat_eq x.thread thread ≡ false
+    → last_of thread (x ∷ xs) ≡ last_of thread xs
 last_of-other x xs thread other = rw other refl
 
 -- no event of the thread is found if the thread has no last event
-pub none_of_thread : (xs : List Event) (thread : ℕ) → last_of thread xs ≡ None → find (λ r. nat_eq r.thread thread) xs ≡ None
+pub none_of_thread : (xs : List Event) (thread : ℕ) → last_of thread xs ≡ None
+    → find (λ r. nat_eq r.thread thread) xs ≡ None
 none_of_thread [] thread none = refl
 none_of_thread (x ∷ xs) thread none = elim (cases_Bool (nat_eq x.thread thread)) [
   | inl own ↦ let nil : x ∷ projection thread xs ≡ [] = last_or-none (x ∷ projection thread xs) (rw own at none) in cc
   | inr other ↦ rw other (none_of_thread xs thread (rw other at none))
 ]
 
-pub last_if_none : (xs : List Event) (thread : ℕ) → find (λ r. nat_eq r.thread thread) xs ≡ None → last_of thread xs ≡ None
+pub last_if_none : (xs : List Event) (thread : ℕ) → find (λ r. nat_eq r.thread thread) xs ≡ None
+    → last_of thread xs ≡ None
 last_if_none [] thread none = refl
 last_if_none (x ∷ xs) thread none = elim (cases_Bool (nat_eq x.thread thread)) [
   | inl own ↦ let clash : Some x ≡ None = rw own at none in cc
@@ -89,18 +94,21 @@ no_kind_of_call call (RetDeq v) e = cc
 no_kind_of_call call RetEmpty e = cc
 
 -- the first event of an operation is a call
-pub made_by_call : (call answer : Event) (o : Operation) → operation_of call (Some answer) ≡ Some o → is_call call.what ≡ true
+pub made_by_call : (call answer : Event) (o : Operation) → operation_of call (Some answer) ≡ Some o
+    → is_call call.what ≡ true
 made_by_call call answer o made = elim (cases_Bool (is_call call.what)) [
   | inl is ↦ is
   | inr isnt ↦ let clash : None ≡ Some o = rw (no_kind call.what answer.what isnt, operation_of) at made in cc
 ]
 
 -- an optional element, if there is one, comes first
-pub head_option : {X : Type 0} (made : Option X) (xs : List X) (o : X) → made ≡ Some o → Contains (cons_option made xs) o
+pub head_option : {X : Type 0} (made : Option X) (xs : List X) (o : X) → made ≡ Some o
+    → Contains (cons_option made xs) o
 head_option made xs o is = rw is (zero, omega arith, refl)
 
 -- operations stay when events are added
-pub operations_keep : (xs more : List Event) (o : Operation) → Contains (operations_of xs) o → Contains (operations_of (xs ++ more)) o
+pub operations_keep : (xs more : List Event) (o : Operation) → Contains (operations_of xs) o
+    → Contains (operations_of (xs ++ more)) o
 operations_keep [] more o among = absurd (not_in_none o among)
 operations_keep (x ∷ xs) more o among =
     let p : Event → Bool = λ r. nat_eq r.thread x.thread in
@@ -120,12 +128,14 @@ abbrev pub next_after : Event → List Event → Option Event
 next_after e later = find (λ r. nat_eq r.thread e.thread) later
 
 -- the return of a pending call makes an operation
-pub operations_made : (xs : List Event) (e call : Event) (o : Operation) → last_of e.thread xs ≡ Some call → operation_of call (Some e) ≡ Some o
+pub operations_made : (xs : List Event) (e call : Event) (o : Operation) → last_of e.thread xs ≡ Some call
+    → operation_of call (Some e) ≡ Some o
     → Contains (operations_of (xs ++ e ∷ [])) o
 operations_made [] e call o last made = let clash : None ≡ Some call = last in cc
 operations_made (x ∷ xs) e call o last made = by_later (last_of e.thread xs) refl (λ l is. operations_made xs e call o is made)
   where
-    by_later : (l : Option Event) → last_of e.thread xs ≡ l → ((m : Event) → last_of e.thread xs ≡ Some call → Contains (operations_of (xs ++ e ∷ [])) o)
+    by_later : (l : Option Event) → last_of e.thread xs ≡ l
+        → ((m : Event) → last_of e.thread xs ≡ Some call → Contains (operations_of (xs ++ e ∷ [])) o)
         → Contains (operations_of ((x ∷ xs) ++ e ∷ [])) o
     by_later (Some l) is deeper =
         let same : l ≡ call = let whole = last_of-cons x xs e.thread l is in let both : Some l ≡ Some call = sym whole ∙ last in cc in
@@ -146,7 +156,8 @@ operations_made (x ∷ xs) e call o last made = by_later (last_of e.thread xs) r
 
 -- no other operation is made by it
 pub operations_push : (xs : List Event) (e : Event) (o : Operation) → Contains (operations_of (xs ++ e ∷ [])) o
-    → Contains (operations_of xs) o ⊎ ((call : Event) × (last_of e.thread xs ≡ Some call) × (operation_of call (Some e) ≡ Some o))
+    → Contains (operations_of xs) o
+    ⊎ ((call : Event) × (last_of e.thread xs ≡ Some call) × (operation_of call (Some e) ≡ Some o))
 operations_push [] e o among = elim (contains_cons_option (operation_of e None) [] o among) [ inl made ↦ cc | inr none ↦ inl none ]
 operations_push (x ∷ xs) e o among =
     elim (contains_cons_option (operation_of x (find (λ r. nat_eq r.thread x.thread) (xs ++ e ∷ []))) (operations_of (xs ++ e ∷ [])) o among) [
@@ -159,7 +170,8 @@ operations_push (x ∷ xs) e o among =
     ]
   where
     by_next : (next : Option Event) → find (λ r. nat_eq r.thread x.thread) xs ≡ next
-        → operation_of x (option_or (find (λ r. nat_eq r.thread x.thread) xs) (find (λ r. nat_eq r.thread x.thread) (e ∷ []))) ≡ Some o
+        → operation_of x (option_or (find (λ r. nat_eq r.thread x.thread) xs)
+        (find (λ r. nat_eq r.thread x.thread) (e ∷ []))) ≡ Some o
         → Contains (operations_of (x ∷ xs)) o ⊎ ((call : Event) × (last_of e.thread (x ∷ xs) ≡ Some call) × (operation_of call (Some e) ≡ Some o))
     by_next (Some r) is made = inl (head_option (operation_of x (find (λ r. nat_eq r.thread x.thread) xs)) (operations_of xs) o
         (ap (operation_of x) is ∙ (rw is at made)))
@@ -182,7 +194,8 @@ abbrev pub keeping : (Event → Bool) → List Event → List Event
 keeping out events = filter (λ e. not (out e)) events
 
 -- if no event of the thread follows, none follows among fewer
-none_kept : (out : Event → Bool) (e : Event) (xs : List Event) → next_after e xs ≡ None → next_after e (keeping out xs) ≡ None
+none_kept : (out : Event → Bool) (e : Event) (xs : List Event) → next_after e xs ≡ None
+    → next_after e (keeping out xs) ≡ None
 none_kept out e [] none = refl
 none_kept out e (x ∷ xs) none = elim (cases_Bool (nat_eq x.thread e.thread)) [
   | inl own ↦ let clash : Some x ≡ None = rw own at none in cc
@@ -212,7 +225,8 @@ next_kept out e (x ∷ xs) only = elim (cases_Bool (nat_eq x.thread e.thread)) [
 ]
 
 -- the operations stay the same
-pub operations_kept : (out : Event → Bool) (xs : List Event) → OnlyLast out xs → operations_of (keeping out xs) ≡ operations_of xs
+pub operations_kept : (out : Event → Bool) (xs : List Event) → OnlyLast out xs
+    → operations_of (keeping out xs) ≡ operations_of xs
 operations_kept out [] only = refl
 operations_kept out (x ∷ xs) only =
     let rest = operations_kept out xs only.1 in
@@ -231,11 +245,13 @@ rises_head x xs e rise among =
     pairs_at (λ earlier later. earlier.ticket < later.ticket) (x ∷ xs) zero (suc at.0) x e rise (omega arith) refl at.1
 
 -- the last event of a thread is one of its events
-pub last_in : (xs : List Event) (thread : ℕ) (l : Event) → last_of thread xs ≡ Some l → Contains xs l × (l.thread ≡ thread)
+pub last_in : (xs : List Event) (thread : ℕ) (l : Event) → last_of thread xs ≡ Some l
+    → Contains xs l × (l.thread ≡ thread)
 last_in [] thread l last = let clash : None ≡ Some l = last in cc
 last_in (x ∷ xs) thread l last = by_rest (last_of thread xs) refl (last_in xs thread)
   where
-    by_rest : (m : Option Event) → last_of thread xs ≡ m → ((k : Event) → last_of thread xs ≡ Some k → Contains xs k × (k.thread ≡ thread))
+    by_rest : (m : Option Event) → last_of thread xs ≡ m
+        → ((k : Event) → last_of thread xs ≡ Some k → Contains xs k × (k.thread ≡ thread))
         → Contains (x ∷ xs) l × (l.thread ≡ thread)
     by_rest (Some m) is deeper =
         let same : m ≡ l = let both : Some m ≡ Some l = sym (last_of-cons x xs thread m is) ∙ last in cc in
@@ -259,7 +275,8 @@ last_above (x ∷ xs) e among rise = elim (contains_cons x xs e among) [
   | inr there ↦ let found = last_above xs e there (rises_later x xs rise) in (found.0, last_of-cons x xs e.thread found.0 found.1, found.2)
 ]
   where
-    by_rest : x ≡ e → (m : Option Event) → last_of e.thread xs ≡ m → (l : Event) × (last_of e.thread (x ∷ xs) ≡ Some l) × (e.ticket ≤ l.ticket)
+    by_rest : x ≡ e → (m : Option Event) → last_of e.thread xs ≡ m
+        → (l : Event) × (last_of e.thread (x ∷ xs) ≡ Some l) × (e.ticket ≤ l.ticket)
     by_rest here (Some m) is =
         let less = rises_head x xs m rise (last_in xs e.thread m is).0 in
         let tickets = ap (λ (y : Event). y.ticket) here in
@@ -270,17 +287,20 @@ last_above (x ∷ xs) e among rise = elim (contains_cons x xs e among) [
         (x, ap (λ t. last_of t (x ∷ xs)) (sym threads) ∙ last_of-own x xs (ap (λ t. last_of t xs) threads ∙ is), omega (arith, tickets))
 
 -- a pending call is the last event of its thread
-pub pending_is_last : (thread : ℕ) (xs : List Event) (e : Event) → pending_call thread xs ≡ Some e → (last_of thread xs ≡ Some e) × (is_call e.what ≡ true)
+pub pending_is_last : (thread : ℕ) (xs : List Event) (e : Event) → pending_call thread xs ≡ Some e
+    → (last_of thread xs ≡ Some e) × (is_call e.what ≡ true)
 pending_is_last thread xs e = waits (last_of thread xs)
   where
-    waits : (l : Option Event) → option_and_then (λ r. then_some (is_call r.what) r) l ≡ Some e → (l ≡ Some e) × (is_call e.what ≡ true)
+    waits : (l : Option Event) → option_and_then (λ r. then_some (is_call r.what) r) l ≡ Some e
+        → (l ≡ Some e) × (is_call e.what ≡ true)
     waits None is = cc
     waits (Some r) is = elim (cases_Bool (is_call r.what)) [
       | inl call ↦ let same : Some r ≡ Some e = rw call at is in let one : r ≡ e = cc in (same, subst (λ (y : Event). is_call y.what ≡ true) one call)
       | inr other ↦ let clash : None ≡ Some e = rw other at is in cc
     ]
 
-pub last_is_pending : (thread : ℕ) (xs : List Event) (e : Event) → last_of thread xs ≡ Some e → is_call e.what ≡ true → pending_call thread xs ≡ Some e
+pub last_is_pending : (thread : ℕ) (xs : List Event) (e : Event) → last_of thread xs ≡ Some e → is_call e.what ≡ true
+    → pending_call thread xs ≡ Some e
 last_is_pending thread xs e last call = rw last (rw call refl)
 
 -- only pending calls are removed
@@ -294,7 +314,8 @@ only_last out (x ∷ xs) rise pending = (here, only_last out xs (rises_later x x
         let is = pending_is_last x.thread (x ∷ xs) x (pending x (zero, omega arith, refl) gone) in
         (is.1, none_behind (last_of x.thread xs) refl is.0)
       where
-        none_behind : (l : Option Event) → last_of x.thread xs ≡ l → last_of x.thread (x ∷ xs) ≡ Some x → last_of x.thread xs ≡ None
+        none_behind : (l : Option Event) → last_of x.thread xs ≡ l → last_of x.thread (x ∷ xs) ≡ Some x
+            → last_of x.thread xs ≡ None
         none_behind None is last = is
         none_behind (Some l) is last =
             let same : l ≡ x = let both : Some l ≡ Some x = sym (last_of-cons x xs x.thread l is) ∙ last in cc in
@@ -313,7 +334,8 @@ only_last out (x ∷ xs) rise pending = (here, only_last out xs (rises_later x x
 
 -- an operation made by later events is that of one of them and the last event of its thread
 pub made_later : (front rest : List Event) (o : Operation) → Contains (operations_of (front ++ rest)) o
-    → Contains (operations_of front) o ⊎ ((before : List Event) × (r : Event) × (after : List Event) × (call : Event) × (rest ≡ before ++ r ∷ after)
+    → Contains (operations_of front) o
+    ⊎ ((before : List Event) × (r : Event) × (after : List Event) × (call : Event) × (rest ≡ before ++ r ∷ after)
     × (last_of r.thread (front ++ before) ≡ Some call) × (operation_of call (Some r) ≡ Some o))
 made_later front [] o among = inl (subst (λ (es : List Event). Contains (operations_of es) o) (append-nil front) among)
 made_later front (r ∷ rest) o among =
@@ -330,7 +352,8 @@ made_later front (r ∷ rest) o among =
     ]
 
 -- events of other threads don't change a thread's last event
-pub last_of-append : (xs ys : List Event) (thread : ℕ) → last_of thread ys ≡ None → last_of thread (xs ++ ys) ≡ last_of thread xs
+pub last_of-append : (xs ys : List Event) (thread : ℕ) → last_of thread ys ≡ None
+    → last_of thread (xs ++ ys) ≡ last_of thread xs
 last_of-append xs ys thread none =
     let nil : projection thread ys ≡ [] = last_or-none (projection thread ys) none in
     let parts : projection thread (xs ++ ys) ≡ projection thread xs = filter-append (λ e. nat_eq e.thread thread) xs ys
@@ -347,7 +370,8 @@ rises_front xs ys rise i j d below inside =
     subst (λ (e : Event). e.ticket < (get_or xs j d).ticket) at_i (subst (λ (e : Event). (get_or (xs ++ ys) i d).ticket < e.ticket) at_j less)
 
 -- an event is known by its ticket
-pub one_by_ticket : (xs : List Event) (e r : Event) → TicketsRise xs → Contains xs e → Contains xs r → e.ticket ≡ r.ticket → e ≡ r
+pub one_by_ticket : (xs : List Event) (e r : Event) → TicketsRise xs → Contains xs e → Contains xs r
+    → e.ticket ≡ r.ticket → e ≡ r
 one_by_ticket xs e r rise in_e in_r same =
     let at_e = place_of xs e in_e in
     let at_r = place_of xs r in_r in

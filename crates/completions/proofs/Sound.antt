@@ -15,7 +15,8 @@ use Rattle.history_merge.specs.declared.fault.HistoryFault.{HistoryFault}
 use Rattle.history_merge.specs.declared.fault.HistoryFault.TheVariants.{Pending}
 use Rattle.history_merge.proofs.Faults.{IsSound, nothing_pending_in_complete, sound_without_fault}
 use Rattle.history_merge.proofs.Turns.{pending_in, TurnsSoFar}
-use Rattle.completions.specs.Completed.{answers_to, calls_dequeue, completed, enqueue_answer, is_left_out, is_pending, left_values, next_ticket}
+use Rattle.completions.specs.Completed.{answers_to, calls_dequeue, completed, enqueue_answer, is_left_out, is_pending}
+use Rattle.completions.specs.Completed.{left_values, next_ticket}
 use Rattle.completions.specs.Completed.{paired, pending_calls, returns_from}
 use Rattle.completions.specs.declared.answers.Answer.{Answer}
 use Rattle.completions.specs.Faults.{IsBeyondLimits, MayBePending}
@@ -29,7 +30,8 @@ whole_turns [] turns = tt
 whole_turns (call ∷ []) turns = absurd turns
 whole_turns (call ∷ answer ∷ rest) turns = (turns.0, whole_turns rest turns.1)
 
-turns_with_call : (done : List Event) (call : Event) → TakesTurns done → is_call call.what ≡ true → TakesTurnsSoFar (done ++ call ∷ [])
+turns_with_call : (done : List Event) (call : Event) → TakesTurns done → is_call call.what ≡ true
+    → TakesTurnsSoFar (done ++ call ∷ [])
 turns_with_call [] call turns waits = waits
 turns_with_call (x ∷ []) call turns waits = absurd turns
 turns_with_call (x ∷ answer ∷ rest) call turns waits = (turns.0, turns_with_call rest call turns.1 waits)
@@ -37,7 +39,9 @@ turns_with_call (x ∷ answer ∷ rest) call turns waits = (turns.0, turns_with_
 turns_so_far : (xs : List Event) → TurnsSoFar xs → TakesTurnsSoFar xs
 turns_so_far xs turns = by_pending (pending_in xs) refl turns
   where
-    waiting : (o : Option Event) (c : Event) → Rattle.std.specs.Option.option_and_then (λ e. Rattle.std.specs.Bool.then_some (is_call e.what) e) o ≡ Some c → is_call c.what ≡ true
+    waiting : (o : Option Event) (c : Event)
+        → Rattle.std.specs.Option.option_and_then (λ e. Rattle.std.specs.Bool.then_some (is_call e.what) e) o ≡ Some c
+        → is_call c.what ≡ true
     waiting None c is = cc
     waiting (Some e) c is = elim (cases_Bool (is_call e.what)) [
       | inl call ↦ let same : Some e ≡ Some c = rw call at is in let one : e ≡ c = cc in subst (λ (x : Event). is_call x.what ≡ true) one call
@@ -45,7 +49,8 @@ turns_so_far xs turns = by_pending (pending_in xs) refl turns
     ]
 
     by_pending : (p : Option Event) → pending_in xs ≡ p
-        → MatchOption p (TakesTurns xs) (λ call. (done : List Event) × (xs ≡ done ++ call ∷ []) × TakesTurns done) → TakesTurnsSoFar xs
+        → MatchOption p (TakesTurns xs) (λ call. (done : List Event) × (xs ≡ done ++ call ∷ []) × TakesTurns done)
+        → TakesTurnsSoFar xs
     by_pending None is whole = whole_turns xs whole
     by_pending (Some call) is (done, parts, whole) =
         subst TakesTurnsSoFar (sym parts) (turns_with_call done call whole (waiting (last_or None xs) call is))
@@ -59,7 +64,8 @@ sound_is_history initial events sound = record {
   values_are_distinct = sound.values_are_distinct;
 }
 
-complete_is_history : (initial : List ℕ) (events : List Event) → IsCompleteFrom initial events → IsHistoryFrom initial events
+complete_is_history : (initial : List ℕ) (events : List Event) → IsCompleteFrom initial events
+    → IsHistoryFrom initial events
 complete_is_history initial events whole = record {
   tickets_rise = whole.complete.tickets_rise;
   tickets_in_range = whole.complete.tickets_in_range;
@@ -71,13 +77,15 @@ complete_is_history initial events whole = record {
 -- ---- events without a fault
 
 -- events that a history builder accepts, except for pending calls, are a history
-pending_is_history : (initial : List ℕ) (events : List Event) (ticket : ℕ) → IsFirstFault initial events (Pending ticket) → IsHistoryFrom initial events
+pending_is_history : (initial : List ℕ) (events : List Event) (ticket : ℕ)
+    → IsFirstFault initial events (Pending ticket) → IsHistoryFrom initial events
 pending_is_history initial events ticket (distinct, none, least) =
     sound_is_history initial events (sound_without_fault initial events distinct none)
 
 -- ---- a complete history is unchanged
 
-none_pending : (initial : List ℕ) (events : List Event) → IsCompleteFrom initial events → (e : Event) → Contains events e → is_pending events e ≡ false
+none_pending : (initial : List ℕ) (events : List Event) → IsCompleteFrom initial events → (e : Event)
+    → Contains events e → is_pending events e ≡ false
 none_pending initial events whole e among = elim (cases_Bool (is_pending events e)) [
   | inr other ↦ other
   | inl pending ↦
@@ -86,7 +94,8 @@ none_pending initial events whole e among = elim (cases_Bool (is_pending events 
       let clash : None ≡ Some e = sym none ∙ is in cc
 ]
 
-pub complete_stays : (initial : List ℕ) (events : List Event) → IsCompleteFrom initial events → completed initial events ≡ events
+pub complete_stays : (initial : List ℕ) (events : List Event) → IsCompleteFrom initial events
+    → completed initial events ≡ events
 complete_stays initial events whole =
     let none : pending_calls events ≡ [] = filter_none (is_pending events) events (none_pending initial events whole) in
     let no_answers : answers_to initial events ≡ [] =
@@ -117,13 +126,15 @@ when_ok (Err e) P Q each is = is
 
 -- a completion that isn't beyond the limits has tickets and events within them
 pub within_limits : (initial : List ℕ) (events : List Event) → ¬ (IsBeyondLimits initial events)
-    → (length (completed initial events) ≤ MAX_EVENTS) × (next_ticket events + length (answers_to initial events) ≤ MAX_TICKET + 1)
+    → (length (completed initial events) ≤ MAX_EVENTS)
+    × (next_ticket events + length (answers_to initial events) ≤ MAX_TICKET + 1)
 within_limits initial events within = (
   elim (cases_lt MAX_EVENTS (length (completed initial events))) [ inl more ↦ absurd (within (inl more)) | inr few ↦ few ],
   elim (cases_lt (MAX_TICKET + 1) (next_ticket events + length (answers_to initial events))) [ inl more ↦ absurd (within (inr more)) | inr few ↦ few ],
 )
 
-pub when_both : {T E : Type 0} (r : Result T E) (P P' Q : T → Type 0) → ((x : T) → P x → P' x → Q x) → IfOk r P → IfOk r P' → IfOk r Q
+pub when_both : {T E : Type 0} (r : Result T E) (P P' Q : T → Type 0) → ((x : T) → P x → P' x → Q x) → IfOk r P
+    → IfOk r P' → IfOk r Q
 when_both (Ok x) P P' Q each is also = each x is also
 when_both (Err e) P P' Q each is also = is
 
@@ -132,15 +143,18 @@ on_ok (Ok x) P Q then is = then is
 on_ok (Err e) P Q then is = is
 
 -- events are a history if they have no fault, or if the first is that a call is pending
-pub may_be_pending : (initial : List ℕ) (events : List Event) → MayBePending initial events → IsHistoryFrom initial events
+pub may_be_pending : (initial : List ℕ) (events : List Event) → MayBePending initial events
+    → IsHistoryFrom initial events
 may_be_pending initial events (inl whole) = complete_is_history initial events whole
 may_be_pending initial events (inr (ticket, first)) = pending_is_history initial events ticket first
 
-pub if_may_be_pending : (initial : List ℕ) (events : List Event) (fault : HistoryFault) → IsFirstFault initial events fault
+pub if_may_be_pending : (initial : List ℕ) (events : List Event) (fault : HistoryFault)
+    → IsFirstFault initial events fault
     → ((ticket : ℕ) × (fault ≡ Pending ticket)) → MayBePending initial events
 if_may_be_pending initial events fault first (ticket, is) = inr (ticket, subst (IsFirstFault initial events) is first)
 
-pub taken_may_be_pending : (initial : List ℕ) (events : List Event) (made : HistoryView) → (made.initial ≡ initial) × (made.events ≡ events)
+pub taken_may_be_pending : (initial : List ℕ) (events : List Event) (made : HistoryView)
+    → (made.initial ≡ initial) × (made.events ≡ events)
     → IsCompleteFrom made.initial made.events → MayBePending initial events
 taken_may_be_pending initial events made is whole =
     inl (subst (λ (es : List Event). IsCompleteFrom initial es) is.1 (subst (λ (vs : List ℕ). IsCompleteFrom vs made.events) is.0 whole))

@@ -1,13 +1,16 @@
 -- Walks over events: the state of each thread, and the lists that are made.
-use Rattle.std.proofs.Common.{◌≡◌, ℕ, zero, suc, ◌+◌, ◌-◌, ◌<◌, ◌≤◌, ◌⊎◌, ◌++◌, inl, inr, Bool, true, false, List, [], ◌∷◌, length, get_or, set}
+use Rattle.std.proofs.Common.{◌≡◌, ℕ, zero, suc, ◌+◌, ◌-◌, ◌<◌, ◌≤◌, ◌⊎◌, ◌++◌, inl, inr, Bool, true, false, List, []}
+use Rattle.std.proofs.Common.{◌∷◌, length, get_or, set}
 use Rattle.std.proofs.Common.{take, not, Option, Some, None, Result, Ok, Err, refl, ap, sym, subst, ◌∙◌, arith}
 use Rattle.std.proofs.Common.{ap₂, get_or-set_other, get_or-set_same, length-set}
 use Rattle.std.proofs.lemmas.List.{take_more}
-use Rattle.std.specs.Prelude.{All, Contains, filter, filter_map, is_ok, option_to_list, IsPermutation, MatchResult, nat_eq, slice_get}
+use Rattle.std.specs.Prelude.{All, Contains, filter, filter_map, is_ok, option_to_list, IsPermutation, MatchResult}
+use Rattle.std.specs.Prelude.{nat_eq, slice_get}
 use Rattle.std.specs.List.{cons_option, last_or}
 use Rattle.std.specs.List.Sorted.{IsBinarySearchResult, IsNonDecreasingBy}
 use Rattle.std.specs.Ordering.{nat_cmp}
-use Rattle.std.proofs.lemmas.List.{append_assoc, append-nil, get_or_default, get_or-take, length-append, length-take-le}
+use Rattle.std.proofs.lemmas.List.{append_assoc, append-nil, get_or_default, get_or-take, length-append}
+use Rattle.std.proofs.lemmas.List.{length-take-le}
 use Rattle.std.proofs.lemmas.Bool.{cases_Bool, cases_eq, cases_lt, eq-eqb, eqb-true, ne_eqb}
 use Rattle.std.proofs.lemmas.List.Elements.{filter-append, filter_map-append}
 use Rattle.std.proofs.lemmas.List.Folds.{Any-from_list_any, list_any_at}
@@ -21,7 +24,8 @@ use Rattle.event_records.specs.Projection.{projection}
 use Rattle.history_merge.proofs.Turns.{last_or-push, projection-push_other, projection-push_own}
 use Rattle.completions.specs.declared.answers.Answer.{Answer}
 use Rattle.completions.proofs.Whole.{filter_all, filter_none, pending_by_test, returns-append}
-use Rattle.completions.specs.Completed.{given_value, given_values, is_given, is_left_out, is_pending, next_ticket, paired, returns_from, taken_value, taken_values}
+use Rattle.completions.specs.Completed.{given_value, given_values, is_given, is_left_out, is_pending, next_ticket}
+use Rattle.completions.specs.Completed.{paired, returns_from, taken_value, taken_values}
 use Rattle.completions.specs.Inner.Walk.{AreGiven, AreLast, HasWalked}
 use Rattle.completions.specs.Pending.{IsHistoryFrom, IsPendingCall}
 use Rattle.completions.specs.declared.walk.Walk.{Walk}
@@ -32,7 +36,8 @@ abbrev pub past_end : Event
 past_end = record { ticket = 0; thread = 0; what = CallEnq 0 }
 
 -- one more event
-pub noted : (events : List Event) (last : List (Option Event)) (e : Event) (t : ℕ) → t ≡ e.thread → t < MAX_THREADS → AreLast events last
+pub noted : (events : List Event) (last : List (Option Event)) (e : Event) (t : ℕ) → t ≡ e.thread → t < MAX_THREADS
+    → AreLast events last
     → AreLast (events ++ e ∷ []) (set last t (Some e))
 noted events last e t is below are = (
   length-set last t (Some e) ∙ are.0,
@@ -54,13 +59,15 @@ noted events last e t is below are = (
 )
 
 -- a value that is among the given ones was given
-contained_is_given : (events : List Event) (given : List ℕ) (v : ℕ) → AreGiven events given → Contains given v → is_given events v ≡ true
+contained_is_given : (events : List Event) (given : List ℕ) (v : ℕ) → AreGiven events given → Contains given v
+    → is_given events v ≡ true
 contained_is_given events given v are among =
     let there = (are.0 v).1 among in
     list_any_at (λ w. nat_eq w v) (given_values events) there.0 v there.1 (eq-eqb (get_or (given_values events) there.0 v) v there.2)
 
 -- a value at a place of the given ones was given
-pub stands_if_given : (events : List Event) (given : List ℕ) (v i d : ℕ) → AreGiven events given → i < length given → get_or given i d ≡ v
+pub stands_if_given : (events : List Event) (given : List ℕ) (v i d : ℕ) → AreGiven events given → i < length given
+    → get_or given i d ≡ v
     → is_given events v ≡ true
 stands_if_given events given v i d are below is =
     contained_is_given events given v are (i, below, get_or_default given i v d below ∙ is)
@@ -100,29 +107,34 @@ pub filtered_more : (p : Event → Bool) (xs : List Event) (i : ℕ) (d : Event)
     → filter p (take (i + 1) xs) ≡ filter p (take i xs) ++ get_or xs i d ∷ []
 filtered_more p xs i d below is = ap (filter p) (take_more xs i d below) ∙ filter-append p (take i xs) (get_or xs i d ∷ []) ∙ rw is refl
 
-pub filtered_same : (p : Event → Bool) (xs : List Event) (i : ℕ) (d : Event) → i < length xs → p (get_or xs i d) ≡ false
+pub filtered_same : (p : Event → Bool) (xs : List Event) (i : ℕ) (d : Event) → i < length xs
+    → p (get_or xs i d) ≡ false
     → filter p (take (i + 1) xs) ≡ filter p (take i xs)
 filtered_same p xs i d below is =
     ap (filter p) (take_more xs i d below) ∙ filter-append p (take i xs) (get_or xs i d ∷ []) ∙ rw is (append-nil (filter p (take i xs)))
 
 -- one more is counted
-pub counted_more : (p : Event → Bool) (xs : List Event) (i : ℕ) (d : Event) (n : ℕ) → i < length xs → p (get_or xs i d) ≡ true
+pub counted_more : (p : Event → Bool) (xs : List Event) (i : ℕ) (d : Event) (n : ℕ) → i < length xs
+    → p (get_or xs i d) ≡ true
     → n ≡ length (filter p (take i xs)) → n + 1 ≡ length (filter p (take (i + 1) xs))
 counted_more p xs i d n below is counted =
     let more = ap (λ (l : List Event). length l) (filtered_more p xs i d below is) in
     omega (arith, more, counted, length-append (filter p (take i xs)) (get_or xs i d ∷ []))
 
 -- no more are counted
-pub counted_same : (p : Event → Bool) (xs : List Event) (i : ℕ) (d : Event) (n : ℕ) → i < length xs → p (get_or xs i d) ≡ false
+pub counted_same : (p : Event → Bool) (xs : List Event) (i : ℕ) (d : Event) (n : ℕ) → i < length xs
+    → p (get_or xs i d) ≡ false
     → n ≡ length (filter p (take i xs)) → n ≡ length (filter p (take (i + 1) xs))
 counted_same p xs i d n below is counted = counted ∙ ap (λ (l : List Event). length l) (sym (filtered_same p xs i d below is))
 
 -- one more element gives a value
-pub made_more : {X Y : Type 0} (h : X → Option Y) (xs : List X) (i : ℕ) (d : X) (y : Y) → i < length xs → h (get_or xs i d) ≡ Some y
+pub made_more : {X Y : Type 0} (h : X → Option Y) (xs : List X) (i : ℕ) (d : X) (y : Y) → i < length xs
+    → h (get_or xs i d) ≡ Some y
     → filter_map h (take (i + 1) xs) ≡ filter_map h (take i xs) ++ y ∷ []
 made_more h xs i d y below is = ap (filter_map h) (take_more xs i d below) ∙ filter_map-append h (take i xs) (get_or xs i d ∷ []) ∙ rw is refl
 
-pub made_same : {X Y : Type 0} (h : X → Option Y) (xs : List X) (i : ℕ) (d : X) → i < length xs → h (get_or xs i d) ≡ None
+pub made_same : {X Y : Type 0} (h : X → Option Y) (xs : List X) (i : ℕ) (d : X) → i < length xs
+    → h (get_or xs i d) ≡ None
     → filter_map h (take (i + 1) xs) ≡ filter_map h (take i xs)
 made_same h xs i d below is =
     ap (filter_map h) (take_more xs i d below) ∙ filter_map-append h (take i xs) (get_or xs i d ∷ []) ∙ rw is (append-nil (filter_map h (take i xs)))
@@ -137,7 +149,8 @@ not_given RetNot other = refl
 not_given RetEmpty other = refl
 
 -- the sorted values are those that were given
-pub sorted_are_given : (events : List Event) (given sorted : List ℕ) → given ≡ given_values events → IsPermutation given sorted
+pub sorted_are_given : (events : List Event) (given sorted : List ℕ) → given ≡ given_values events
+    → IsPermutation given sorted
     → IsNonDecreasingBy (λ x. x) sorted → AreGiven events sorted
 sorted_are_given events given sorted is moved rises = (
   λ v. (
@@ -148,7 +161,8 @@ sorted_are_given events given sorted is moved rises = (
 )
 
 -- the values taken by one more event
-taken_push : (before xs : List Event) (e : Event) → taken_values before (xs ++ e ∷ []) ≡ taken_values before xs ++ option_to_list (taken_value (before ++ xs) e)
+taken_push : (before xs : List Event) (e : Event)
+    → taken_values before (xs ++ e ∷ []) ≡ taken_values before xs ++ option_to_list (taken_value (before ++ xs) e)
 taken_push before [] e =
     option_cons (taken_value before e) [] ∙ append-nil (option_to_list (taken_value before e))
     ∙ ap (λ (es : List Event). option_to_list (taken_value es e)) (sym (append-nil before))
@@ -159,13 +173,15 @@ taken_push before (x ∷ xs) e =
     (append_assoc before (x ∷ []) xs)
 
 -- the values given by one more event
-given_push : (events : List Event) (e : Event) → given_values (events ++ e ∷ []) ≡ given_values events ++ option_to_list (given_value e.what)
+given_push : (events : List Event) (e : Event)
+    → given_values (events ++ e ∷ []) ≡ given_values events ++ option_to_list (given_value e.what)
 given_push events e =
     filter_map-append (λ (x : Event). given_value x.what) events (e ∷ [])
     ∙ ap (λ (l : List ℕ). given_values events ++ l) (option_cons (given_value e.what) [] ∙ append-nil (option_to_list (given_value e.what)))
 
 -- one more event is noted
-pub walked_on : (events : List Event) (e : Event) (old new : Walk) → HasWalked events old → AreLast (events ++ e ∷ []) new.last
+pub walked_on : (events : List Event) (e : Event) (old new : Walk) → HasWalked events old
+    → AreLast (events ++ e ∷ []) new.last
     → new.given.items ≡ old.given.items ++ option_to_list (given_value e.what)
     → new.taken.items ≡ old.taken.items ++ option_to_list (taken_value events e) → HasWalked (events ++ e ∷ []) new
 walked_on events e old new walked last given taken = record {
@@ -187,7 +203,8 @@ not_taken before e other = by_what e.what other
     by_what RetEmpty other = refl
 
 -- before an event whose ticket is below that of each pending call, no call is pending
-pub none_before : (initial : List ℕ) (events : List Event) (n least : ℕ) → IsHistoryFrom initial events → 0 < n → n ≤ length events
+pub none_before : (initial : List ℕ) (events : List Event) (n least : ℕ) → IsHistoryFrom initial events → 0 < n
+    → n ≤ length events
     → (get_or events (n - 1) past_end).ticket < least
     → ((call : Event) → call.thread ≤ MAX_THREAD → IsPendingCall events call → least ≤ call.ticket)
     → All (λ e. is_pending events e ≡ false) (take n events)
@@ -283,14 +300,16 @@ returns_more n answers i d below =
     (length-take-le i answers (omega arith))
 
 -- the last event is at the last place
-last_at : (xs : List Event) (n : ℕ) (l : Event) → suc n ≡ length xs → slice_get xs n ≡ Some l → last_or None xs ≡ Some l
+last_at : (xs : List Event) (n : ℕ) (l : Event) → suc n ≡ length xs → slice_get xs n ≡ Some l
+    → last_or None xs ≡ Some l
 last_at [] n l long at = absurd (omega (arith, long))
 last_at (x ∷ []) zero l long at = at
 last_at (x ∷ []) (suc n) l long at = absurd (omega (arith, long))
 last_at (x ∷ y ∷ xs) zero l long at = absurd (omega (arith, long))
 last_at (x ∷ y ∷ xs) (suc n) l long at = last_at (y ∷ xs) n l (omega (arith, long)) at
 
-pub after_last_read : (xs : List Event) (l : Event) → slice_get xs (length xs - 1) ≡ Some l → l.ticket + 1 ≡ next_ticket xs
+pub after_last_read : (xs : List Event) (l : Event) → slice_get xs (length xs - 1) ≡ Some l
+    → l.ticket + 1 ≡ next_ticket xs
 after_last_read xs l at =
     let within = slice_get_within xs (length xs - 1) l at in
     rw (last_at xs (length xs - 1) l (omega (arith, within)) at) refl

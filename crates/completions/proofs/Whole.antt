@@ -1,5 +1,6 @@
 -- Events with answers to pending calls are a complete history.
-use Rattle.std.proofs.Common.{◌≡◌, ◌≢◌, ℕ, zero, suc, ◌+◌, ◌<◌, ◌≤◌, ◌⊎◌, ◌++◌, inl, inr, Bool, true, false, not, List, [], ◌∷◌, length, Option}
+use Rattle.std.proofs.Common.{◌≡◌, ◌≢◌, ℕ, zero, suc, ◌+◌, ◌<◌, ◌≤◌, ◌⊎◌, ◌++◌, inl, inr, Bool, true, false, not, List}
+use Rattle.std.proofs.Common.{[], ◌∷◌, length, Option}
 use Rattle.std.proofs.Common.{Some, None, refl, ap, sym, subst, ◌∙◌, arith}
 use Rattle.std.proofs.Common.{length-append, get_or}
 use Rattle.std.specs.Prelude.{All, AllPairs, Contains, filter, filter_map, nat_eq, ◌&&◌}
@@ -7,7 +8,8 @@ use Rattle.std.specs.List.{last_or}
 use Rattle.std.specs.Option.{option_map_or}
 use Rattle.std.proofs.lemmas.Bool.{cases_Bool, eq-eqb, eqb-true, ne_eqb}
 use Rattle.std.proofs.lemmas.List.{append_assoc, append-nil, get_or_append_left}
-use Rattle.std.proofs.lemmas.List.Elements.{All-append, All-contains, All-filter, Contains-append_left, Contains-append_right}
+use Rattle.std.proofs.lemmas.List.Elements.{All-append, All-contains, All-filter, Contains-append_left}
+use Rattle.std.proofs.lemmas.List.Elements.{Contains-append_right}
 use Rattle.std.proofs.lemmas.List.Elements.{filter-append, filter_map-append}
 use Rattle.std.proofs.lemmas.List.Folds.{Any-from_list_any, list_any_at}
 use Rattle.std.proofs.lemmas.List.Kept.{AllPairs-cons, AllPairs-filter}
@@ -24,10 +26,12 @@ use Rattle.history_merge.proofs.Turns.{answer_is_return, nothing_after_turns, Ta
 use Rattle.completions.specs.declared.answers.Answer.{Answer}
 use Rattle.completions.specs.Pending.{IsHistoryFrom, IsPendingCall, TakesTurnsSoFar}
 use Rattle.completions.specs.Completed.{completed_by, is_answered, is_left_out, is_pending, next_ticket, returns_from}
-use Rattle.completions.proofs.Followed.{keeping, last_above, last_in, last_is_pending, last_of, one_by_ticket, pending_is_last}
+use Rattle.completions.proofs.Followed.{keeping, last_above, last_in, last_is_pending, last_of, one_by_ticket}
+use Rattle.completions.proofs.Followed.{pending_is_last}
 use Rattle.history_merge.proofs.Formed.{no_value}
 use Rattle.verdicts.proofs.Selections.{filters_swap}
-use Rattle.history_merge.proofs.Lists.{contains_head, one_deeper, kept, keeps, passed_filter, all_members, AllPairs-tail, pairs_first, pairs_back, pairs_append}
+use Rattle.history_merge.proofs.Lists.{contains_head, one_deeper, kept, keeps, passed_filter, all_members}
+use Rattle.history_merge.proofs.Lists.{AllPairs-tail, pairs_first, pairs_back, pairs_append}
 
 -- ---- lists
 
@@ -36,7 +40,8 @@ pairs_none R i j d below inside = absurd (omega arith)
 
 -- a relation of pairs holds of the values made of elements
 pub pairs_made : {X Y : Type 0} (R : X → X → Type 0) (S : Y → Y → Type 0) (h : X → Option Y) (xs : List X)
-    → ((x y : X) (b c : Y) → h x ≡ Some b → h y ≡ Some c → R x y → S b c) → AllPairs R xs → AllPairs S (filter_map h xs)
+    → ((x y : X) (b c : Y) → h x ≡ Some b → h y ≡ Some c → R x y → S b c) → AllPairs R xs
+    → AllPairs S (filter_map h xs)
 pairs_made R S h [] each pairs = pairs_none S
 pairs_made {X} {Y} R S h (x ∷ xs) each pairs = by_head (h x) refl (pairs_made R S h xs each (AllPairs-tail R x xs pairs))
   where
@@ -52,7 +57,8 @@ pairs_front {X} R xs ys pairs i j d below inside =
     let at_j = get_or_append_left xs ys d j inside in
     subst (λ (x : X). R x (get_or xs j d)) at_i (subst (λ (y : X). R (get_or (xs ++ ys) i d) y) at_j holds)
 
-pub pairs_across : {X : Type 0} (R : X → X → Type 0) (xs ys : List X) (x y : X) → AllPairs R (xs ++ ys) → Contains xs x → Contains ys y → R x y
+pub pairs_across : {X : Type 0} (R : X → X → Type 0) (xs ys : List X) (x y : X) → AllPairs R (xs ++ ys) → Contains xs x
+    → Contains ys y → R x y
 pairs_across R [] ys x y pairs in_x in_y = absurd (not_in_none x in_x)
 pairs_across {X} R (z ∷ xs) ys x y pairs in_x in_y = elim (contains_cons z xs x in_x) [
   | inl here ↦ subst (λ (w : X). R w y) here (pairs_first R z (xs ++ ys) y pairs (Contains-append_right xs ys y in_y))
@@ -61,16 +67,19 @@ pairs_across {X} R (z ∷ xs) ys x y pairs in_x in_y = elim (contains_cons z xs 
 
 -- ---- distinct values stay distinct when some events are removed
 
-called_still : (p : Event → Bool) (events : List Event) (v : ℕ) → Contains (called_values (filter p events)) v → Contains (called_values events) v
+called_still : (p : Event → Bool) (events : List Event) (v : ℕ) → Contains (called_values (filter p events)) v
+    → Contains (called_values events) v
 called_still p events v among =
     let from = kept (λ (e : Event). called_value e.what) (filter p events) v among in
     keeps (λ (e : Event). called_value e.what) events from.0 v (passed_filter p events from.0 from.1).0 from.2
 
-called_distinct : (p : Event → Bool) (events : List Event) → AreDistinct (called_values events) → AreDistinct (called_values (filter p events))
+called_distinct : (p : Event → Bool) (events : List Event) → AreDistinct (called_values events)
+    → AreDistinct (called_values (filter p events))
 called_distinct p [] distinct = distinct
 called_distinct p (e ∷ events) distinct = by_value (called_value e.what) refl (called_distinct p events)
   where
-    by_value : (value : Option ℕ) → called_value e.what ≡ value → (AreDistinct (called_values events) → AreDistinct (called_values (filter p events)))
+    by_value : (value : Option ℕ) → called_value e.what ≡ value
+        → (AreDistinct (called_values events) → AreDistinct (called_values (filter p events)))
         → AreDistinct (called_values (filter p (e ∷ events)))
     by_value None is deeper =
         let rest = deeper (rw is at distinct) in
@@ -85,7 +94,8 @@ called_distinct p (e ∷ events) distinct = by_value (called_value e.what) refl 
           | inr gone ↦ rw gone rest
         ]
 
-distinct_kept : (p : Event → Bool) (initial : List ℕ) (events : List Event) → AreDistinct (initial ++ called_values events)
+distinct_kept : (p : Event → Bool) (initial : List ℕ) (events : List Event)
+    → AreDistinct (initial ++ called_values events)
     → AreDistinct (initial ++ called_values (filter p events))
 distinct_kept p initial events distinct =
     pairs_append (λ a b. a ≢ b) initial (called_values (filter p events)) (pairs_front (λ a b. a ≢ b) initial (called_values events) distinct)
@@ -96,7 +106,8 @@ distinct_kept p initial events distinct =
 
 -- complete turns, or complete turns and a pending call
 turns_split : (xs : List Event) → TakesTurnsSoFar xs
-    → TakesTurns xs ⊎ ((done : List Event) × (call : Event) × (xs ≡ done ++ call ∷ []) × TakesTurns done × (is_call call.what ≡ true))
+    → TakesTurns xs ⊎ ((done : List Event) × (call : Event) × (xs ≡ done ++ call ∷ []) × TakesTurns done
+    × (is_call call.what ≡ true))
 turns_split [] turns = inl tt
 turns_split (x ∷ []) turns = inr ([], x, refl, tt, turns)
 turns_split (x ∷ answer ∷ rest) turns = elim (turns_split rest turns.1) [
@@ -113,7 +124,8 @@ filter_all p [] each = refl
 filter_all p (x ∷ xs) each = rw (each x (contains_head x xs)) (ap (λ (es : List Event). x ∷ es) (filter_all p xs (λ y among. each y (one_deeper x xs y among))))
 
 -- the last of a list whose tickets rise is above all
-last_whole : (xs : List Event) (e : Event) → Contains xs e → TicketsRise xs → (l : Event) × (last_or None xs ≡ Some l) × (e.ticket ≤ l.ticket)
+last_whole : (xs : List Event) (e : Event) → Contains xs e → TicketsRise xs
+    → (l : Event) × (last_or None xs ≡ Some l) × (e.ticket ≤ l.ticket)
 last_whole [] e among rise = absurd (not_in_none e among)
 last_whole (x ∷ []) e among rise = elim (contains_cons x [] e among) [
   | inl here ↦ let same = ap (λ (y : Event). y.ticket) here in (x, refl, omega (arith, same))
@@ -133,7 +145,8 @@ below_next xs e rise among = let last = last_whole xs e among rise in rw last.1 
 -- ---- returns, one after another
 
 pub return_of : (n : ℕ) (answers : List Answer) (r : Event) → Contains (returns_from n answers) r
-    → (a : Answer) × Contains answers a × (r.thread ≡ a.call.thread) × (r.what ≡ a.what) × (n ≤ r.ticket) × (r.ticket < n + length answers)
+    → (a : Answer) × Contains answers a × (r.thread ≡ a.call.thread) × (r.what ≡ a.what) × (n ≤ r.ticket)
+    × (r.ticket < n + length answers)
 return_of n [] r among = absurd (not_in_none r among)
 return_of n (a ∷ rest) r among =
     elim (contains_cons (record { ticket = n; thread = a.call.thread; what = a.what }) (returns_from (n + 1) rest) r among) [
@@ -145,7 +158,8 @@ return_of n (a ∷ rest) r among =
           (found.0, one_deeper a rest found.0 found.1, found.2, found.3, omega (arith, found.4), omega (arith, found.5))
     ]
 
-pub returns-append : (n : ℕ) (xs ys : List Answer) → returns_from n (xs ++ ys) ≡ returns_from n xs ++ returns_from (n + length xs) ys
+pub returns-append : (n : ℕ) (xs ys : List Answer)
+    → returns_from n (xs ++ ys) ≡ returns_from n xs ++ returns_from (n + length xs) ys
 returns-append n [] ys = ap (λ m. returns_from m ys) (let e : n ≡ n + 0 = omega arith in e)
 returns-append n (a ∷ xs) ys =
     let first : Event = record { ticket = n; thread = a.call.thread; what = a.what } in
@@ -158,12 +172,14 @@ returns_rise n (a ∷ rest) = AllPairs-cons (λ e f. e.ticket < f.ticket) (recor
     (all_members (λ r. n < r.ticket) (returns_from (n + 1) rest) (λ r among. let found = return_of (n + 1) rest r among in omega (arith, found.4)))
     (returns_rise (n + 1) rest)
 
-pub no_return : (n t : ℕ) (answers : List Answer) → ((a : Answer) → Contains answers a → a.call.thread ≢ t) → projection t (returns_from n answers) ≡ []
+pub no_return : (n t : ℕ) (answers : List Answer) → ((a : Answer) → Contains answers a → a.call.thread ≢ t)
+    → projection t (returns_from n answers) ≡ []
 no_return n t [] none = refl
 no_return n t (a ∷ rest) none =
     rw (ne_eqb a.call.thread t (none a (contains_head a rest))) (no_return (n + 1) t rest (λ b among. none b (one_deeper a rest b among)))
 
-one_return : (n : ℕ) (answers : List Answer) (a : Answer) → Contains answers a → AllPairs (λ a b. a.call.thread ≢ b.call.thread) answers
+one_return : (n : ℕ) (answers : List Answer) (a : Answer) → Contains answers a
+    → AllPairs (λ a b. a.call.thread ≢ b.call.thread) answers
     → (r : Event) × (projection a.call.thread (returns_from n answers) ≡ r ∷ []) × (r.what ≡ a.what)
 one_return n [] a among apart = absurd (not_in_none a among)
 one_return n (b ∷ rest) a among apart = elim (contains_cons b rest a among) [
@@ -216,7 +232,8 @@ module _ (initial : List ℕ) (events : List Event) (history : IsHistoryFrom ini
     pub fits : (a : Answer) → Contains answered a → answers a.call.what a.what ≡ true
     pub apart : AllPairs (λ a b. a.call.thread ≢ b.call.thread) answered
 
-  module _ (answered : List Answer) (are : AreAnswers answered) (few : next_ticket events + length answered ≤ MAX_TICKET + 1) where
+  module _ (answered : List Answer) (are : AreAnswers answered)
+      (few : next_ticket events + length answered ≤ MAX_TICKET + 1) where
     abbrev pub out : Event → Bool
     out e = is_left_out events answered e
 
@@ -238,7 +255,8 @@ module _ (initial : List ℕ) (events : List Event) (history : IsHistoryFrom ini
         omega (arith, below, found.4)
 
     -- an answered call is one of these
-    answer_of : (e : Event) → Contains events e → is_answered answered e ≡ true → (a : Answer) × Contains answered a × (a.call ≡ e)
+    answer_of : (e : Event) → Contains events e → is_answered answered e ≡ true
+        → (a : Answer) × Contains answered a × (a.call ≡ e)
     answer_of e among is =
         let found = Any-from_list_any (λ (a : Answer). nat_eq a.call.ticket e.ticket) answered is in
         let in_a : Contains answered found.1 = (found.0, found.2, found.3) in
@@ -255,7 +273,8 @@ module _ (initial : List ℕ) (events : List Event) (history : IsHistoryFrom ini
         (λ e r in_e in_r. after_last e r (passed_filter (λ e. not (out e)) events e in_e).0 in_r)
 
     -- an event that isn't the last of its thread stays
-    stays_before : (t : ℕ) (x l : Event) → Contains events x → x.thread ≡ t → last_of t events ≡ Some l → x.ticket < l.ticket → not (out x) ≡ true
+    stays_before : (t : ℕ) (x l : Event) → Contains events x → x.thread ≡ t → last_of t events ≡ Some l
+        → x.ticket < l.ticket → not (out x) ≡ true
     stays_before t x l among own last less = elim (cases_Bool (out x)) [
       | inr there ↦ ap not there
       | inl gone ↦
@@ -266,7 +285,8 @@ module _ (initial : List ℕ) (events : List Event) (history : IsHistoryFrom ini
     ]
 
     -- in a thread without a pending call all events stay and none is added
-    turns_of_idle : (t : ℕ) → TakesTurns (projection t events) → TakesTurns (keeping out (projection t events) ++ projection t returns)
+    turns_of_idle : (t : ℕ) → TakesTurns (projection t events)
+        → TakesTurns (keeping out (projection t events) ++ projection t returns)
     turns_of_idle t whole =
         let idle : pending_call t events ≡ None = nothing_after_turns (projection t events) whole in
         let stay : keeping out (projection t events) ≡ projection t events = filter_all (λ e. not (out e)) (projection t events) (λ x among.
@@ -282,7 +302,8 @@ module _ (initial : List ℕ) (events : List Event) (history : IsHistoryFrom ini
         ∙ append-nil (keeping out (projection t events)) ∙ stay)) whole
 
     -- in a thread with a pending call, this returns or is removed
-    turns_of_pending : (t : ℕ) (done : List Event) (call : Event) → projection t events ≡ done ++ call ∷ [] → TakesTurns done → is_call call.what ≡ true
+    turns_of_pending : (t : ℕ) (done : List Event) (call : Event) → projection t events ≡ done ++ call ∷ []
+        → TakesTurns done → is_call call.what ≡ true
         → TakesTurns (keeping out (projection t events) ++ projection t returns)
     turns_of_pending t done call is whole waits =
         let last : last_of t events ≡ Some call = ap (last_or None) is ∙ last_or-push None done call in
@@ -299,7 +320,8 @@ module _ (initial : List ℕ) (events : List Event) (history : IsHistoryFrom ini
         (pairs_across (λ e f. e.ticket < f.ticket) done (call ∷ []) x call rises among (contains_head call [])))) in
         subst (λ (es : List Event). TakesTurns (es ++ projection t returns)) (sym stay) (by_answer here.0 here.1 pending (cases_Bool (is_answered answered call)))
       where
-        by_answer : Contains events call → call.thread ≡ t → IsPendingCall events call → ((is_answered answered call ≡ true) ⊎ (is_answered answered call ≡ false))
+        by_answer : Contains events call → call.thread ≡ t → IsPendingCall events call
+            → ((is_answered answered call ≡ true) ⊎ (is_answered answered call ≡ false))
             → TakesTurns ((done ++ keeping out (call ∷ [])) ++ projection t returns)
         by_answer in_events own pending (inl yields) =
             let found = answer_of call in_events yields in

@@ -28,10 +28,13 @@ use Rattle.conditions.specs.declared.local.LocalVerdict.TheVariants as local
 use Rattle.conditions.specs.declared.producer.Emptiness.{Emptiness}
 use Rattle.conditions.specs.declared.producer.Producer.{Producer}
 use Rattle.conditions.specs.declared.producer.Producer.TheVariants.{Initial, Thread}
-use Rattle.conditions.specs.ClaimLaws.{claim_on, FirstRefutedIsOne, LocalEvidenceIsTrueClaim, LocalVerdictIsOne, RefutedIsRefutedInTheWhole}
-use Rattle.conditions.specs.ClaimLaws.{SaysOf, TrueLocalClaimDecides, TrueWeakClaimDecides, WeakEvidenceIsTrueClaim, WeakVerdictIsOne}
+use Rattle.conditions.specs.ClaimLaws.{claim_on, FirstRefutedIsOne, LocalEvidenceIsTrueClaim, LocalVerdictIsOne}
+use Rattle.conditions.specs.ClaimLaws.{RefutedIsRefutedInTheWhole}
+use Rattle.conditions.specs.ClaimLaws.{SaysOf, TrueLocalClaimDecides, TrueWeakClaimDecides, WeakEvidenceIsTrueClaim}
+use Rattle.conditions.specs.ClaimLaws.{WeakVerdictIsOne}
 use Rattle.conditions.specs.Claims.{AreOrdersInTurn, IsTrueLocalClaim, IsTrueOf, selections_of}
-use Rattle.conditions.specs.Conditions.{all_producers, ComesBefore, counts_for, has_values, IsLocallyLinearizable, judges_empties, producers_of}
+use Rattle.conditions.specs.Conditions.{all_producers, ComesBefore, counts_for, has_values, IsLocallyLinearizable}
+use Rattle.conditions.specs.Conditions.{judges_empties, producers_of}
 use Rattle.conditions.specs.Conditions.{selection_of, without_empties}
 use Rattle.conditions.specs.Decided.{IsDecidedOf, IsFirstRefuted}
 use Rattle.conditions.proofs.Judged.{idle_is_linearizable, none_beyond, rank_stands}
@@ -51,10 +54,12 @@ module _ (emptiness : Emptiness) (whole : Contents) where
   abbrev lines_of : List LocalOrder → List Operation
   lines_of orders = operations_at whole.operations (flat_map (λ (x : LocalOrder). x.order) orders)
 
-  lines_more : (x : LocalOrder) (orders : List LocalOrder) → lines_of (x ∷ orders) ≡ operations_at whole.operations x.order ++ lines_of orders
+  lines_more : (x : LocalOrder) (orders : List LocalOrder)
+      → lines_of (x ∷ orders) ≡ operations_at whole.operations x.order ++ lines_of orders
   lines_more x orders = filter_map-append (slice_get whole.operations) x.order (flat_map (λ (x : LocalOrder). x.order) orders)
 
-  orders_in_turn : (orders : List LocalOrder) → All HasOne orders → AreOrdersInTurn (map part (map (λ x. x.producer) orders)) (lines_of orders)
+  orders_in_turn : (orders : List LocalOrder) → All HasOne orders
+      → AreOrdersInTurn (map part (map (λ x. x.producer) orders)) (lines_of orders)
   orders_in_turn [] each = refl
   orders_in_turn (x ∷ orders) each =
       let decided = All-head HasOne x orders each in
@@ -89,14 +94,16 @@ refuted_is_refuted_in_the_whole whole kind lines = (
 -- ---- claims that decide
 
 -- each of the contents has a linearization
-each_in_turn : (parts : List Contents) (lines : List Operation) → AreOrdersInTurn parts lines → (part : Contents) → Contains parts part → AreLinearizable part
+each_in_turn : (parts : List Contents) (lines : List Operation) → AreOrdersInTurn parts lines → (part : Contents)
+    → Contains parts part → AreLinearizable part
 each_in_turn [] lines in_turn part among = absurd (not_in_none part among)
 each_in_turn (first ∷ parts) lines in_turn part among = elim (contains_cons first parts part among) [
   | inl here ↦ subst AreLinearizable here (in_turn.0, in_turn.3)
   | inr later ↦ each_in_turn parts in_turn.1 in_turn.4 part later
 ]
 
-module _ (history : HistoryView) (complete : IsCompleteFrom history.initial history.events) (few : length history.initial ≤ MAX_INITIAL) where
+module _ (history : HistoryView) (complete : IsCompleteFrom history.initial history.events)
+    (few : length history.initial ≤ MAX_INITIAL) where
   abbrev contents : Contents
   contents = contents_of history
 
@@ -114,7 +121,8 @@ module _ (history : HistoryView) (complete : IsCompleteFrom history.initial hist
     same_contents = selected_contents history complete few values empties
 
     -- a true claim on a selection decides it
-    decides_selection : (said : Claimed) → IsTrueOf (select values empties contents) said → SaysOf (AreLinearizable (select values empties contents)) said
+    decides_selection : (said : Claimed) → IsTrueOf (select values empties contents) said
+        → SaysOf (AreLinearizable (select values empties contents)) said
     decides_selection (claimed.Yes lines) true_claim = (lines, true_claim)
     decides_selection (claimed.No kind lines) true_claim =
         let there : IsTrueOf (contents_of own) (claimed.No kind lines) = subst (λ c. IsTrueOf c (claimed.No kind lines)) (sym same_contents) true_claim in
@@ -122,7 +130,8 @@ module _ (history : HistoryView) (complete : IsCompleteFrom history.initial hist
         subst (λ c. ¬ (AreLinearizable c)) same_contents none
 
     -- two verdicts on a selection have the same claim
-    one_claim : (x y : Verdict) → IsDecidedOf contents (select values empties contents) x → IsDecidedOf contents (select values empties contents) y
+    one_claim : (x y : Verdict) → IsDecidedOf contents (select values empties contents) x
+        → IsDecidedOf contents (select values empties contents) y
         → claim_on contents x ≡ claim_on contents y
     one_claim x y of_x of_y =
         let by_x = of_x.chosen in
@@ -140,13 +149,15 @@ module _ (history : HistoryView) (complete : IsCompleteFrom history.initial hist
     Decided x = IsDecidedOf contents (selection x.producer) (Yes x.order)
 
     -- two verdicts on the selection of one producer
-    one_of_producer : (p q : Producer) (x y : Verdict) → p ≡ q → IsDecidedOf contents (selection p) x → IsDecidedOf contents (selection q) y
+    one_of_producer : (p q : Producer) (x y : Verdict) → p ≡ q → IsDecidedOf contents (selection p) x
+        → IsDecidedOf contents (selection q) y
         → claim_on contents x ≡ claim_on contents y
     one_of_producer p q x y same of_x of_y =
         one_claim (counts_for contents q) (λ call. judges_empties emptiness) x y (subst (λ r. IsDecidedOf contents (selection r) x) same of_x) of_y
 
     -- a thread's selection is linearizable if those of the history's producers are
-    all_producers_linearizable : ((p : Producer) → Contains (producers_of contents) p → AreLinearizable (selection p)) → IsLocallyLinearizable emptiness contents
+    all_producers_linearizable : ((p : Producer) → Contains (producers_of contents) p → AreLinearizable (selection p))
+        → IsLocallyLinearizable emptiness contents
     all_producers_linearizable each Initial = each Initial (zero, omega arith, refl)
     all_producers_linearizable each (Thread t) = elim (cases_Bool (has_values contents (Thread t))) [
       | inr none ↦ idle_is_linearizable history complete few emptiness t none (each Initial (zero, omega arith, refl))
@@ -159,7 +170,8 @@ module _ (history : HistoryView) (complete : IsCompleteFrom history.initial hist
       ]
     ]
 
-    decides_locally : (said : Claimed) → IsTrueLocalClaim emptiness contents said → SaysOf (IsLocallyLinearizable emptiness contents) said
+    decides_locally : (said : Claimed) → IsTrueLocalClaim emptiness contents said
+        → SaysOf (IsLocallyLinearizable emptiness contents) said
     decides_locally (claimed.Yes lines) in_turn =
         all_producers_linearizable (λ p among. each_in_turn (selections_of emptiness contents) lines in_turn (selection p) (mapped_to selection (producers_of contents) p among))
     decides_locally (claimed.No kind lines) shown =
@@ -167,7 +179,8 @@ module _ (history : HistoryView) (complete : IsCompleteFrom history.initial hist
 
     -- ---- one verdict
 
-    same_lines : (xs ys : List LocalOrder) → map (λ x. x.producer) xs ≡ map (λ y. y.producer) ys → All Decided xs → All Decided ys
+    same_lines : (xs ys : List LocalOrder) → map (λ x. x.producer) xs ≡ map (λ y. y.producer) ys → All Decided xs
+        → All Decided ys
         → lines_of emptiness contents xs ≡ lines_of emptiness contents ys
     same_lines [] [] same all_x all_y = refl
     same_lines [] (y ∷ ys) same all_x all_y = cc
@@ -182,7 +195,8 @@ module _ (history : HistoryView) (complete : IsCompleteFrom history.initial hist
 
 -- ---- the first selection without a linearization
 
-earlier_clash : (emptiness : Emptiness) (whole : Contents) (p q : Producer) (x y : Violation) → IsFirstRefuted emptiness whole p x
+earlier_clash : (emptiness : Emptiness) (whole : Contents) (p q : Producer) (x y : Violation)
+    → IsFirstRefuted emptiness whole p x
     → IsFirstRefuted emptiness whole q y → ¬ (ComesBefore p q)
 earlier_clash emptiness whole p q x y of_p of_q before = of_p.decided.exact (of_q.first p before)
 

@@ -4,7 +4,8 @@ use Rattle.std.proofs.Common.{◌∷◌, drop, length, map, take, refl, ap, sym,
 use Rattle.std.specs.Prelude.{◌==◌, filter, IsTrue}
 use Rattle.std.proofs.lemmas.Bool.{cases_Bool, cases_lt, eqb-true}
 use Rattle.std.proofs.lemmas.List.Sorted.{length_permutation}
-use Rattle.std.proofs.lemmas.List.{drop_all, drop_more, drop-append-le, length-append, take_all, take-append-drop, take-append-le}
+use Rattle.std.proofs.lemmas.List.{drop_all, drop_more, drop-append-le, length-append, take_all, take-append-drop}
+use Rattle.std.proofs.lemmas.List.{take-append-le}
 use Rattle.event_records.specs.declared.limits.TheConstants.{MAX_INITIAL, MAX_THREADS}
 use Rattle.history_merge.specs.declared.operation.Operation.{Operation}
 use Rattle.history_merge.specs.Initial.{Contents, HistoryView, IsCompleteFrom}
@@ -38,7 +39,8 @@ cut_back n xs front back is long =
 -- ---- the lines of one selection
 
 module _ (first : Contents) (parts : List Contents) (rest : List Operation) where
-  long_as : (order : List Operation) → IsLegalOrder first.initial first.operations order → length order ≡ length first.operations
+  long_as : (order : List Operation) → IsLegalOrder first.initial first.operations order
+      → length order ≡ length first.operations
   long_as order legal = length_permutation first.operations order legal.holds_each_once
 
   pub too_short : length rest < length first.operations → ¬ (AreOrdersInTurn (first ∷ parts) rest)
@@ -73,14 +75,16 @@ module _ (emptiness : Emptiness) (whole : Contents) where
   long_enough : length all_producers ≡ PRODUCERS
   long_enough = refl
 
-  left_by : (k : ℕ) (b : Bool) → k < PRODUCERS → has_values whole (ranked k) ≡ b → left_from k ≡ cond b (part (ranked k) ∷ left_from (k + 1)) (left_from (k + 1))
+  left_by : (k : ℕ) (b : Bool) → k < PRODUCERS → has_values whole (ranked k) ≡ b
+      → left_from k ≡ cond b (part (ranked k) ∷ left_from (k + 1)) (left_from (k + 1))
   left_by k b below is =
       ap (λ ps. map part (filter (has_values whole) ps)) (drop_more all_producers k Initial (omega (arith, below, long_enough)))
       ∙ ap (λ (p : Producer). map part (filter (has_values whole) (p ∷ drop (k + 1) all_producers))) (rank_stands k below)
       ∙ by_test b is
     where
       by_test : (b : Bool) → has_values whole (ranked k) ≡ b
-          → map part (filter (has_values whole) (ranked k ∷ drop (k + 1) all_producers)) ≡ cond b (part (ranked k) ∷ left_from (k + 1)) (left_from (k + 1))
+          → map part (filter (has_values whole) (ranked k ∷ drop (k + 1) all_producers))
+          ≡ cond b (part (ranked k) ∷ left_from (k + 1)) (left_from (k + 1))
       by_test true is = rw is refl
       by_test false is = rw is refl
 
@@ -92,7 +96,8 @@ module _ (emptiness : Emptiness) (whole : Contents) where
   IsLeft k rest lines = AreOrdersInTurn (left_from k) rest ↔ AreOrdersInTurn (left_from 0) lines
 
   pub left_used : (k : ℕ) (rest lines : List Operation) (n : ℕ) → k < PRODUCERS → has_values whole (ranked k) ≡ true
-      → n ≡ length (part (ranked k)).operations → IsLegalOrder (part (ranked k)).initial (part (ranked k)).operations (take n rest)
+      → n ≡ length (part (ranked k)).operations
+      → IsLegalOrder (part (ranked k)).initial (part (ranked k)).operations (take n rest)
       → IsLeft k rest lines → IsLeft (k + 1) (drop n rest) lines
   left_used k rest lines n below has is legal known =
       let step = one_legal (part (ranked k)) (left_from (k + 1)) rest n is legal in
@@ -101,19 +106,23 @@ module _ (emptiness : Emptiness) (whole : Contents) where
         λ all. step.1 (before.1 all),
       )
 
-  pub left_idle : (k : ℕ) (rest lines : List Operation) → k < PRODUCERS → has_values whole (ranked k) ≡ false → IsLeft k rest lines → IsLeft (k + 1) rest lines
+  pub left_idle : (k : ℕ) (rest lines : List Operation) → k < PRODUCERS → has_values whole (ranked k) ≡ false
+      → IsLeft k rest lines → IsLeft (k + 1) rest lines
   left_idle k rest lines below has known = subst (λ cs. AreOrdersInTurn cs rest ↔ AreOrdersInTurn (left_from 0) lines) (left_by k false below has) known
 
   pub left_refused : (k : ℕ) (rest lines : List Operation) → k < PRODUCERS → has_values whole (ranked k) ≡ true
-      → ¬ (AreOrdersInTurn (part (ranked k) ∷ left_from (k + 1)) rest) → IsLeft k rest lines → ¬ (AreOrdersInTurn (left_from 0) lines)
+      → ¬ (AreOrdersInTurn (part (ranked k) ∷ left_from (k + 1)) rest) → IsLeft k rest lines
+      → ¬ (AreOrdersInTurn (left_from 0) lines)
   left_refused k rest lines below has none known all = none (subst (λ cs. AreOrdersInTurn cs rest) (left_by k true below has) (known.1 all))
 
   -- at the end no line is left
-  pub all_compared : (k : ℕ) (rest lines : List Operation) (b : Bool) → PRODUCERS ≤ k → b ≡ (length rest == 0) → IsLeft k rest lines
+  pub all_compared : (k : ℕ) (rest lines : List Operation) (b : Bool) → PRODUCERS ≤ k → b ≡ (length rest == 0)
+      → IsLeft k rest lines
       → IsTrue b ↔ AreOrdersInTurn (left_from 0) lines
   all_compared k rest lines b past is known = by_rest rest is (subst (λ cs. AreOrdersInTurn cs rest ↔ AreOrdersInTurn (left_from 0) lines) (none_left k past) known)
     where
-      by_rest : (rest : List Operation) → b ≡ (length rest == 0) → AreOrdersInTurn [] rest ↔ AreOrdersInTurn (left_from 0) lines
+      by_rest : (rest : List Operation) → b ≡ (length rest == 0)
+          → AreOrdersInTurn [] rest ↔ AreOrdersInTurn (left_from 0) lines
           → IsTrue b ↔ AreOrdersInTurn (left_from 0) lines
       by_rest [] is known = (λ yes. known.0 refl, λ all. is)
       by_rest (x ∷ rest) is known = (
@@ -133,7 +142,8 @@ module _ (history : HistoryView) (complete : IsCompleteFrom history.initial hist
   abbrev contents : Contents
   contents = contents_of history
 
-  pub of_none : (rank : ℕ) (kind : ViolationKind) (lines : List ClaimLine) → PRODUCERS ≤ rank → IsOfNone emptiness contents rank (No kind lines)
+  pub of_none : (rank : ℕ) (kind : ViolationKind) (lines : List ClaimLine) → PRODUCERS ≤ rank
+      → IsOfNone emptiness contents rank (No kind lines)
       → ¬ (IsTrueLocalClaim emptiness contents (No kind lines))
   of_none rank kind lines past none shown = each shown.0 shown.1
     where

@@ -78,10 +78,12 @@ module _ (whole : Contents) (t : ℕ) (none : has_values whole (Thread t) ≡ fa
   ]
 
   -- the values that count for this thread count for the initial values' producer, and have no producer
-  counts_as_nobodys : (v : ℕ) → counts_for whole (Thread t) v ≡ cond (counts_for whole Initial v) (is_nobodys whole v) false
+  counts_as_nobodys : (v : ℕ)
+      → counts_for whole (Thread t) v ≡ cond (counts_for whole Initial v) (is_nobodys whole v) false
   counts_as_nobodys v = counts_by v (producer_of whole v) refl
 
-  selects_by : (emptiness : Emptiness) (w : Option ℕ) → option_map_or (counts_for whole (Thread t)) w (judges_empties emptiness)
+  selects_by : (emptiness : Emptiness) (w : Option ℕ)
+      → option_map_or (counts_for whole (Thread t)) w (judges_empties emptiness)
       ≡ cond (option_map_or (counts_for whole Initial) w (judges_empties emptiness)) (option_map_or (is_nobodys whole) w (judges_empties emptiness)) false
   selects_by Strict None = refl
   selects_by Weak None = refl
@@ -89,7 +91,8 @@ module _ (whole : Contents) (t : ℕ) (none : has_values whole (Thread t) ≡ fa
 
   -- so its selection is a selection of that one
   pub selection_within : (emptiness : Emptiness)
-      → select (is_nobodys whole) (λ call. judges_empties emptiness) (selection_of emptiness Initial whole) ≡ selection_of emptiness (Thread t) whole
+      → select (is_nobodys whole) (λ call. judges_empties emptiness) (selection_of emptiness Initial whole)
+      ≡ selection_of emptiness (Thread t) whole
   selection_within emptiness =
       let values = filtered_twice (is_nobodys whole) (counts_for whole Initial) (counts_for whole (Thread t)) whole.initial counts_as_nobodys in
       let operations = filtered_twice (selects (is_nobodys whole) (λ call. judges_empties emptiness))
@@ -109,7 +112,8 @@ rank_stands (suc t) below = thread_stands 0 64 t (omega arith) ∙ ap Thread (om
     thread_stands a (suc n) (suc t) below = thread_stands (a + 1) n t (omega arith) ∙ ap Thread (omega arith)
 
 -- the marks of producers in use
-pub used_is : (whole : Contents) (used : List Bool) (k : ℕ) → AreMarked whole.operations used → k < PRODUCERS → get_or used k false ≡ has_values whole (ranked k)
+pub used_is : (whole : Contents) (used : List Bool) (k : ℕ) → AreMarked whole.operations used → k < PRODUCERS
+    → get_or used k false ≡ has_values whole (ranked k)
 used_is whole used zero marked below = marked.initial
 used_is whole used (suc t) marked below = marked.threads t (omega arith)
 
@@ -126,14 +130,16 @@ module _ (history : HistoryView) (complete : IsCompleteFrom history.initial hist
     events = events_kept history.initial history.events complete (counts_for whole Initial) (selects (counts_for whole Initial) (λ call. judges_empties emptiness));
   }
 
-  first_operations : operations_of first_selection.events ≡ filter (selects (counts_for whole Initial) (λ call. judges_empties emptiness)) (operations_of history.events)
+  first_operations : operations_of first_selection.events
+      ≡ filter (selects (counts_for whole Initial) (λ call. judges_empties emptiness)) (operations_of history.events)
   first_operations = operations_kept history.initial history.events complete (counts_for whole Initial) (selects (counts_for whole Initial) (λ call. judges_empties emptiness))
 
   first_contents : contents_of first_selection ≡ selection_of emptiness Initial whole
   first_contents = λ i. record { initial = first_selection.initial; operations = first_operations i }
 
   -- its selection is linearizable if that of the initial values is
-  pub idle_is_linearizable : (t : ℕ) → has_values whole (Thread t) ≡ false → AreLinearizable (selection_of emptiness Initial whole)
+  pub idle_is_linearizable : (t : ℕ) → has_values whole (Thread t) ≡ false
+      → AreLinearizable (selection_of emptiness Initial whole)
       → AreLinearizable (selection_of emptiness (Thread t) whole)
   idle_is_linearizable t none linearizable =
       let shorter = no_longer (counts_for whole Initial) history.initial in
@@ -164,7 +170,8 @@ module _ (history : HistoryView) (complete : IsCompleteFrom history.initial hist
   HasOne x = IsDecidedOf whole (selection_of emptiness x.producer whole) (Yes x.order)
 
   producers_further : (k : ℕ) (b : Bool) → k < PRODUCERS → has_values whole (ranked k) ≡ b
-      → filter (has_values whole) (take (k + 1) all_producers) ≡ filter (has_values whole) (take k all_producers) ++ cond b (ranked k ∷ []) []
+      → filter (has_values whole) (take (k + 1) all_producers) ≡ filter (has_values whole) (take k all_producers)
+      ++ cond b (ranked k ∷ []) []
   producers_further k b below is =
       ap (filter (has_values whole)) (take_more all_producers k Initial (omega (arith, below, long_enough)))
       ∙ filter-append (has_values whole) (take k all_producers) (get_or all_producers k Initial ∷ [])
@@ -177,8 +184,10 @@ module _ (history : HistoryView) (complete : IsCompleteFrom history.initial hist
     | inr more ↦ subst P (let e : rank ≡ k = omega arith in e) here
   ]
 
-  pub judged_more : (used : List Bool) (rank : ℕ) (p : Producer) (order : List ℕ) (orders now : List LocalOrder) → AreMarked whole.operations used
-      → rank < PRODUCERS → get_or used rank false ≡ true → p ≡ ranked rank → IsDecidedOf whole (selection_of emptiness p whole) (Yes order)
+  pub judged_more : (used : List Bool) (rank : ℕ) (p : Producer) (order : List ℕ) (orders now : List LocalOrder)
+      → AreMarked whole.operations used
+      → rank < PRODUCERS → get_or used rank false ≡ true → p ≡ ranked rank
+      → IsDecidedOf whole (selection_of emptiness p whole) (Yes order)
       → now ≡ orders ++ record { producer = p; order = order } ∷ [] → AreJudged emptiness whole rank orders
       → AreJudged emptiness whole (rank + 1) now
   judged_more used rank p order orders now marked below in_use is_ranked decided is_now judged =
@@ -192,8 +201,10 @@ module _ (history : HistoryView) (complete : IsCompleteFrom history.initial hist
         decided = subst (All HasOne) (sym is_now) (All-append HasOne orders (x ∷ []) judged.decided (All-cons HasOne x [] decided (All-nil HasOne)));
       }
 
-  pub judged_same : (used : List Bool) (rank : ℕ) (orders now : List LocalOrder) → AreMarked whole.operations used → rank < PRODUCERS
-      → get_or used rank false ≡ false → now ≡ orders → AreJudged emptiness whole rank orders → AreJudged emptiness whole (rank + 1) now
+  pub judged_same : (used : List Bool) (rank : ℕ) (orders now : List LocalOrder) → AreMarked whole.operations used
+      → rank < PRODUCERS
+      → get_or used rank false ≡ false → now ≡ orders → AreJudged emptiness whole rank orders
+      → AreJudged emptiness whole (rank + 1) now
   judged_same used zero orders now marked below idle is_now judged = let clash : true ≡ false = sym marked.initial ∙ idle in cc
   judged_same used (suc t) orders now marked below idle is_now judged =
       let none : has_values whole (Thread t) ≡ false = sym (used_is whole used (suc t) marked below) ∙ idle in record {
@@ -214,7 +225,9 @@ module _ (history : HistoryView) (complete : IsCompleteFrom history.initial hist
     first = λ q before. earlier rank q judged.linearizable (subst (ComesBefore q) is_ranked before);
   }
     where
-      earlier : (rank : ℕ) (q : Producer) → ((k : ℕ) → k < rank → AreLinearizable (selection_of emptiness (ranked k) whole)) → ComesBefore q (ranked rank)
+      earlier : (rank : ℕ) (q : Producer)
+          → ((k : ℕ) → k < rank → AreLinearizable (selection_of emptiness (ranked k) whole))
+          → ComesBefore q (ranked rank)
           → AreLinearizable (selection_of emptiness q whole)
       earlier zero Initial known before = absurd before
       earlier zero (Thread s) known before = absurd before
@@ -222,7 +235,8 @@ module _ (history : HistoryView) (complete : IsCompleteFrom history.initial hist
       earlier (suc t) (Thread s) known before = known (suc s) (omega (arith, before))
 
   -- all selections are linearizable
-  pub all_judged : (rank : ℕ) (orders : List LocalOrder) → PRODUCERS ≤ rank → AreJudged emptiness whole rank orders → AreLocalOrders emptiness whole orders
+  pub all_judged : (rank : ℕ) (orders : List LocalOrder) → PRODUCERS ≤ rank → AreJudged emptiness whole rank orders
+      → AreLocalOrders emptiness whole orders
   all_judged rank orders past judged = record {
     linearizable = each;
     producers = judged.producers ∙ ap (filter (has_values whole)) (take_all rank all_producers (omega (arith, past, long_enough)));
@@ -242,7 +256,8 @@ module _ (history : HistoryView) (complete : IsCompleteFrom history.initial hist
 -- ---- places of selections
 
 -- the places of a producer's selection
-pub places_of_rank : (emptiness : Emptiness) (whole : Contents) (used : List Bool) (buckets : List (List ℕ)) (rank : ℕ) (p : Producer) (item listed : List ℕ)
+pub places_of_rank : (emptiness : Emptiness) (whole : Contents) (used : List Bool) (buckets : List (List ℕ)) (rank : ℕ)
+    (p : Producer) (item listed : List ℕ)
     → AreSharedOut emptiness whole used buckets → rank < PRODUCERS → get_or used rank false ≡ true → p ≡ ranked rank → item ≡ get_or buckets rank item
     → listed ≡ item → ArePlacesOf whole.operations listed (selection_of emptiness p whole).operations
 places_of_rank emptiness whole used buckets rank p item listed shared below in_use is_ranked at is_listed =

@@ -65,7 +65,8 @@ weak_by_value whole p (Some v) = by_test (counts_for whole p v)
     by_test true = refl
     by_test false = refl
 
-weak_of_strict : (whole : Contents) (p : Producer) → without_empties (selection_of Strict p whole) ≡ selection_of Weak p whole
+weak_of_strict : (whole : Contents) (p : Producer)
+    → without_empties (selection_of Strict p whole) ≡ selection_of Weak p whole
 weak_of_strict whole p =
     let values = filtered_twice (λ v. true) (counts_for whole p) (counts_for whole p) whole.initial (λ v. weak_by_value whole p (Some v)) in
     let operations = filtered_twice (selects (λ v. true) (λ call. false)) (selects (counts_for whole p) (λ call. true))
@@ -77,7 +78,8 @@ both_by_value : (whole : Contents) (p : Producer) (w : Option ℕ) → option_ma
 both_by_value whole p None = refl
 both_by_value whole p (Some v) = refl
 
-weak_of_weak : (whole : Contents) (p : Producer) → select (counts_for whole p) (λ call. false) (without_empties whole) ≡ selection_of Weak p whole
+weak_of_weak : (whole : Contents) (p : Producer)
+    → select (counts_for whole p) (λ call. false) (without_empties whole) ≡ selection_of Weak p whole
 weak_of_weak whole p =
     let values = filtered_twice (counts_for whole p) (λ v. true) (counts_for whole p) whole.initial (λ v. refl) in
     let operations = filtered_twice (selects (counts_for whole p) (λ call. false)) (selects (λ v. true) (λ call. false))
@@ -96,7 +98,8 @@ both_are_weakest history complete few =
 -- ---- minimal histories
 
 -- an element that passes one test is found among those that pass a weaker one as among all
-found_alike : {X : Type 0} (p q : X → Bool) (xs : List X) → ((x : X) → p x ≡ true → q x ≡ true) → find p (filter q xs) ≡ find p xs
+found_alike : {X : Type 0} (p q : X → Bool) (xs : List X) → ((x : X) → p x ≡ true → q x ≡ true)
+    → find p (filter q xs) ≡ find p xs
 found_alike p q [] keeps = refl
 found_alike {X} p q (x ∷ xs) keeps = pick (p x) (q x) refl refl (keeps x) (found_alike p q xs keeps)
   where
@@ -107,7 +110,8 @@ found_alike {X} p q (x ∷ xs) keeps = pick (p x) (q x) refl refl (keeps x) (fou
     pick false true is_p is_q kept more = rw is_p more
     pick false false is_p is_q kept more = rw is_p more
 
-any_alike : {X : Type 0} (p q : X → Bool) (xs : List X) → ((x : X) → p x ≡ true → q x ≡ true) → list_any p (filter q xs) ≡ list_any p xs
+any_alike : {X : Type 0} (p q : X → Bool) (xs : List X) → ((x : X) → p x ≡ true → q x ≡ true)
+    → list_any p (filter q xs) ≡ list_any p xs
 any_alike p q [] keeps = refl
 any_alike {X} p q (x ∷ xs) keeps = pick (p x) (q x) refl refl (keeps x) (any_alike p q xs keeps)
   where
@@ -125,7 +129,8 @@ enqueues_own (Dequeue w) v is = cc
 enqueues_own DequeueEmpty v is = cc
 
 -- a selected value has the producer that it has in the whole
-producer_kept : (values empties : ℕ → Bool) (whole : Contents) (v : ℕ) → values v ≡ true → producer_of (select values empties whole) v ≡ producer_of whole v
+producer_kept : (values empties : ℕ → Bool) (whole : Contents) (v : ℕ) → values v ≡ true
+    → producer_of (select values empties whole) v ≡ producer_of whole v
 producer_kept values empties whole v selected =
     let initial : is_initial (filter values whole.initial) v ≡ is_initial whole.initial v =
     any_alike (λ w. nat_eq w v) values whole.initial (λ w same. ap values (eqb-true w v same) ∙ selected) in
@@ -136,7 +141,8 @@ producer_kept values empties whole v selected =
     ∙ ap (λ (o : Option Operation). (if is_initial whole.initial v then Some Initial else option_map (λ (o : Operation). Thread o.thread) o)) enqueue
 
 -- a value of a producer's selection counts for the producer in a selection of that
-counts_still : (emptiness : Emptiness) (p : Producer) (whole : Contents) (values empties : ℕ → Bool) (v : ℕ) → counts_for whole p v ≡ true
+counts_still : (emptiness : Emptiness) (p : Producer) (whole : Contents) (values empties : ℕ → Bool) (v : ℕ)
+    → counts_for whole p v ≡ true
     → values v ≡ true → counts_for (select values empties (selection_of emptiness p whole)) p v ≡ true
 counts_still emptiness p whole values empties v counts selected =
     ap (λ q. option_map_or (is_producer p) q true)
@@ -146,7 +152,8 @@ counts_still emptiness p whole values empties v counts selected =
 
 -- so its selection from there is all of it
 own_selection : (emptiness : Emptiness) (p : Producer) (whole : Contents) (values empties : ℕ → Bool)
-    → selection_of emptiness p (select values empties (selection_of emptiness p whole)) ≡ select values empties (selection_of emptiness p whole)
+    → selection_of emptiness p (select values empties (selection_of emptiness p whole))
+    ≡ select values empties (selection_of emptiness p whole)
 own_selection emptiness p whole values empties = λ i. record { initial = initial i; operations = operations i }
   where
     part : Contents
@@ -155,7 +162,8 @@ own_selection emptiness p whole values empties = λ i. record { initial = initia
     small : Contents
     small = select values empties (selection_of emptiness p whole)
 
-    initial : filter (counts_for (select values empties (selection_of emptiness p whole)) p) (filter values (filter (counts_for whole p) whole.initial))
+    initial : filter (counts_for (select values empties (selection_of emptiness p whole)) p)
+        (filter values (filter (counts_for whole p) whole.initial))
         ≡ filter values (filter (counts_for whole p) whole.initial)
     initial = kept_each (counts_for (select values empties (selection_of emptiness p whole)) p) (filter values (filter (counts_for whole p) whole.initial)) (λ v among.
         let passed = passed_filter values (filter (counts_for whole p) whole.initial) v among in
@@ -163,7 +171,8 @@ own_selection emptiness p whole values empties = λ i. record { initial = initia
 
     by_value : (o : Operation) (w : Option ℕ) → value_of o.kind ≡ w → selects values empties o ≡ true
         → selects (counts_for whole p) (λ call. judges_empties emptiness) o ≡ true
-        → selects (counts_for (select values empties (selection_of emptiness p whole)) p) (λ call. judges_empties emptiness) o ≡ true
+        → selects (counts_for (select values empties (selection_of emptiness p whole)) p)
+        (λ call. judges_empties emptiness) o ≡ true
     by_value o None is second first =
         selects_as_call (counts_for (select values empties (selection_of emptiness p whole)) p) (λ call. judges_empties emptiness) o is
         ∙ sym (selects_as_call (counts_for whole p) (λ call. judges_empties emptiness) o is) ∙ first
@@ -173,7 +182,8 @@ own_selection emptiness p whole values empties = λ i. record { initial = initia
         (sym (selects_as_value (counts_for whole p) (λ call. judges_empties emptiness) o v is) ∙ first)
         (sym (selects_as_value values empties o v is) ∙ second)
 
-    operations : filter (selects (counts_for (select values empties (selection_of emptiness p whole)) p) (λ call. judges_empties emptiness))
+    operations : filter (selects (counts_for (select values empties (selection_of emptiness p whole)) p)
+        (λ call. judges_empties emptiness))
         (filter (selects values empties) (filter (selects (counts_for whole p) (λ call. judges_empties emptiness)) whole.operations))
         ≡ filter (selects values empties) (filter (selects (counts_for whole p) (λ call. judges_empties emptiness)) whole.operations)
     operations = kept_each _ (filter (selects values empties) (filter (selects (counts_for whole p) (λ call. judges_empties emptiness)) whole.operations)) (λ o among.
@@ -184,8 +194,10 @@ own_selection emptiness p whole values empties = λ i. record { initial = initia
 -- ---- the laws
 
 -- linearizable selections of a history's selections stay linearizable
-others_stay : (small : HistoryView) → IsCompleteFrom small.initial small.events → length small.initial ≤ MAX_INITIAL → IsMinimal (contents_of small)
-    → (selected : Contents) → IsValueClosed (contents_of small) selected → selected ≢ contents_of small → (more others : ℕ → Bool)
+others_stay : (small : HistoryView) → IsCompleteFrom small.initial small.events → length small.initial ≤ MAX_INITIAL
+    → IsMinimal (contents_of small)
+    → (selected : Contents) → IsValueClosed (contents_of small) selected → selected ≢ contents_of small
+    → (more others : ℕ → Bool)
     → AreLinearizable (select more others selected)
 others_stay small complete few minimal selected closed other more others =
     let linearizable = minimal.1 selected closed other in

@@ -27,14 +27,16 @@ use Rattle.conditions.specs.declared.part.Part.{Part}
 abbrev pub past_end : Operation
 past_end = record { call = 0; ret = 0; thread = 0; kind = DequeueEmpty }
 
-module _ (test : Operation → Bool) (operations : List Operation) (i : ℕ) (o : Operation) (at : slice_get operations i ≡ Some o) where
+module _ (test : Operation → Bool) (operations : List Operation) (i : ℕ) (o : Operation)
+    (at : slice_get operations i ≡ Some o) where
   one_further : filter test (take (i + 1) operations) ≡ filter test (take i operations) ++ cond (test o) (o ∷ []) []
   one_further =
       ap (filter test) (one_more operations i o (slice_get_within operations i o at) (sym (get_or_from_slice_get operations i o o at)))
       ∙ filter-append test (take i operations) (o ∷ [])
 
   -- the place of one more operation that passes
-  pub places_more : (before now : List ℕ) → test o ≡ true → now ≡ before ++ i ∷ [] → ArePlacesOf operations before (filter test (take i operations))
+  pub places_more : (before now : List ℕ) → test o ≡ true → now ≡ before ++ i ∷ []
+      → ArePlacesOf operations before (filter test (take i operations))
       → ArePlacesOf operations now (filter test (take (i + 1) operations))
   places_more before now passes is are =
       ap (map (slice_get operations)) is ∙ map-append (slice_get operations) before (i ∷ [])
@@ -43,7 +45,8 @@ module _ (test : Operation → Bool) (operations : List Operation) (i : ℕ) (o 
       ∙ ap (map (λ x. Some x)) (sym (one_further ∙ ap (λ (b : Bool). filter test (take i operations) ++ cond b (o ∷ []) []) passes))
 
   -- one more operation that doesn't pass
-  pub places_same : (before : List ℕ) → test o ≡ false → ArePlacesOf operations before (filter test (take i operations))
+  pub places_same : (before : List ℕ) → test o ≡ false
+      → ArePlacesOf operations before (filter test (take i operations))
       → ArePlacesOf operations before (filter test (take (i + 1) operations))
   places_same before fails are =
       are ∙ ap (map (λ x. Some x)) (sym (one_further ∙ ap (λ (b : Bool). filter test (take i operations) ++ cond b (o ∷ []) []) fails
@@ -79,7 +82,8 @@ module _ (whole : HistoryView) (complete : IsCompleteFrom whole.initial whole.ev
     stand_there = subst (ArePlacesOf (operations_of whole.events) places) (sym (operations_kept whole.initial whole.events complete values test)) selected.operations;
   }
 
-  pub part_is : (part : Part) → part.history.initial ≡ initial → part.history.events ≡ events_selected → part.places.items ≡ places
+  pub part_is : (part : Part) → part.history.initial ≡ initial → part.history.events ≡ events_selected
+      → part.places.items ≡ places
       → IsPart whole (select values empties (contents_of whole)) part
   part_is part is_initial is_events is_places =
       let values_are = is_initial ∙ selected.initial_values in
@@ -98,6 +102,8 @@ all_pass [] = refl
 all_pass (x ∷ xs) = ap (λ ys. x ∷ ys) (all_pass xs)
 
 -- at the end of the walk
-pub places_of_all : (test : Operation → Bool) (operations : List Operation) (i : ℕ) (places : List ℕ) → length operations ≤ i
-    → ArePlacesOf operations places (filter test (take i operations)) → ArePlacesOf operations places (filter test operations)
+pub places_of_all : (test : Operation → Bool) (operations : List Operation) (i : ℕ) (places : List ℕ)
+    → length operations ≤ i
+    → ArePlacesOf operations places (filter test (take i operations))
+    → ArePlacesOf operations places (filter test operations)
 places_of_all test operations i places past are = subst (λ os. ArePlacesOf operations places (filter test os)) (take_all i operations past) are

@@ -50,7 +50,8 @@ module _ (whole selected : Contents) (places : List ℕ) (at : ArePlacesOf whole
   same_line (Op p) within = ap (option_map line.Op) (placed_at whole.operations places selected.operations p p at within)
   same_line (Initial p) within = ap (option_map line.Initial) (same_initial p within)
 
-  within_moved : (place : LinePlace) → IsPlaceWithin selected.initial selected.operations place → IsPlaceWithin whole.initial whole.operations (moved place)
+  within_moved : (place : LinePlace) → IsPlaceWithin selected.initial selected.operations place
+      → IsPlaceWithin whole.initial whole.operations (moved place)
   within_moved (Op p) within =
       let there = at_place selected.operations p within in
       slice_get_within whole.operations (moved_place places p) there.0 (placed_at whole.operations places selected.operations p p at within ∙ there.1)
@@ -59,8 +60,10 @@ module _ (whole selected : Contents) (places : List ℕ) (at : ArePlacesOf whole
       slice_get_within whole.initial p there.0 (same_initial p within ∙ there.1)
 
   -- the places name the same lines
-  same_lines : (listed : List LinePlace) → ((place : LinePlace) → Contains listed place → IsPlaceWithin selected.initial selected.operations place)
-      → lines_at whole.initial whole.operations (map moved listed) ≡ lines_at selected.initial selected.operations listed
+  same_lines : (listed : List LinePlace)
+      → ((place : LinePlace) → Contains listed place → IsPlaceWithin selected.initial selected.operations place)
+      → lines_at whole.initial whole.operations (map moved listed)
+      ≡ lines_at selected.initial selected.operations listed
   same_lines [] each = refl
   same_lines (place ∷ listed) each =
       ap₂ (λ (l : Option ClaimLine) (ls : List ClaimLine). cons_option l ls) (same_line place (each place (zero, omega arith, refl)))
@@ -86,13 +89,15 @@ module _ (whole selected : Contents) (places : List ℕ) (at : ArePlacesOf whole
   step_moved : (step : CoverStep) → places_of_step (moved_step places step) ≡ map moved (places_of_step step)
   step_moved step = ap₂ (λ (p : LinePlace) (ps : List LinePlace). p ∷ ps) (source_moved step.source) (maybe_moved step.dequeue)
 
-  cover_moved : (cover : List CoverStep) → flat_map places_of_step (map (moved_step places) cover) ≡ map moved (flat_map places_of_step cover)
+  cover_moved : (cover : List CoverStep)
+      → flat_map places_of_step (map (moved_step places) cover) ≡ map moved (flat_map places_of_step cover)
   cover_moved [] = refl
   cover_moved (step ∷ cover) =
       ap₂ (λ (ps qs : List LinePlace). ps ++ qs) (step_moved step) (cover_moved cover)
       ∙ sym (map-append moved (places_of_step step) (flat_map places_of_step cover))
 
-  violation_moved : (violation : Violation) → violation_places (moved_violation places violation) ≡ map moved (violation_places violation)
+  violation_moved : (violation : Violation)
+      → violation_places (moved_violation places violation) ≡ map moved (violation_places violation)
   violation_moved (Fresh deq enq) = ap (λ (ps : List LinePlace). Op (moved_place places deq) ∷ ps) (maybe_moved enq)
   violation_moved (Repeat enq first second) =
       ap (λ (p : LinePlace). p ∷ Op (moved_place places first) ∷ Op (moved_place places second) ∷ []) (source_moved enq)
@@ -107,7 +112,8 @@ module _ (whole selected : Contents) (places : List ℕ) (at : ArePlacesOf whole
   kind_moved (Order enq_a enq_b deq_b deq_a) = refl
   kind_moved (Witness empty cover) = refl
 
-  verdict_moved : (verdict : Verdict) → verdict_places (moved_verdict places verdict) ≡ map moved (verdict_places verdict)
+  verdict_moved : (verdict : Verdict)
+      → verdict_places (moved_verdict places verdict) ≡ map moved (verdict_places verdict)
   verdict_moved (Yes order) = map_map (moved_place places) Op order ∙ sym (map_map Op moved order)
   verdict_moved (No violation) = violation_moved violation
 
@@ -175,7 +181,8 @@ module _ (whole : Contents) (values empties : ℕ → Bool) (places : List ℕ)
         }
 
 -- a verdict on a part of a history, by the places of the whole
-pub decided_at : (whole : HistoryView) (values empties : ℕ → Bool) (part : Part) (verdict : Verdict) (places : List ℕ) (moved : Verdict)
+pub decided_at : (whole : HistoryView) (values empties : ℕ → Bool) (part : Part) (verdict : Verdict) (places : List ℕ)
+    (moved : Verdict)
     → IsPart whole (select values empties (contents_of whole)) part
     → ArePlacesOf (operations_of whole.events) places (select values empties (contents_of whole)).operations
     → ((p : ℕ) → p < length (filter values whole.initial) → slice_get whole.initial p ≡ slice_get (filter values whole.initial) p)
@@ -188,7 +195,8 @@ decided_at whole values empties part verdict places moved is_part at same_initia
     subst (IsDecidedOf (contents_of whole) chosen) (sym is)
     (decided_by_places (contents_of whole) values empties places at same_initial verdict decided')
 
-pub decided_of_part : (whole : HistoryView) (values empties : ℕ → Bool) (part : Part) (verdict : Verdict) (places : List ℕ) (moved : Verdict)
+pub decided_of_part : (whole : HistoryView) (values empties : ℕ → Bool) (part : Part) (verdict : Verdict)
+    (places : List ℕ) (moved : Verdict)
     → IsPart whole (select values empties (contents_of whole)) part → places ≡ part.places.items
     → ((p : ℕ) → p < length (filter values whole.initial) → slice_get whole.initial p ≡ slice_get (filter values whole.initial) p)
     → IsDecided part.history.initial (operations_of part.history.events) verdict → moved ≡ moved_verdict places verdict

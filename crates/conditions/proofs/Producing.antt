@@ -1,14 +1,17 @@
 -- The producer of a value, as it is found, and the operations of a producer's selection.
-use Rattle.std.proofs.Common.{◌≡◌, ◌≢◌, ℕ, zero, ◌+◌, ◌<◌, ◌≤◌, ◌⊎◌, inl, inr, Bool, true, false, cond, List, [], ◌∷◌, length, get_or, map}
+use Rattle.std.proofs.Common.{◌≡◌, ◌≢◌, ℕ, zero, ◌+◌, ◌<◌, ◌≤◌, ◌⊎◌, inl, inr, Bool, true, false, cond, List, [], ◌∷◌}
+use Rattle.std.proofs.Common.{length, get_or, map}
 use Rattle.std.proofs.Common.{Option, Some, None, Result, Ok, Err, refl, ap, sym, subst, ◌∙◌, arith}
-use Rattle.std.specs.Prelude.{Contains, filter, filter_map, find, IsPermutation, MatchResult, nat_eq, nat_lt, option_map, slice_get}
+use Rattle.std.specs.Prelude.{Contains, filter, filter_map, find, IsPermutation, MatchResult, nat_eq, nat_lt}
+use Rattle.std.specs.Prelude.{option_map, slice_get}
 use Rattle.std.specs.List.Sorted.{IsBinarySearchResult, IsNonDecreasingBy, IsSearchInRange}
 use Rattle.std.specs.Option.{option_map_or}
 use Rattle.std.specs.Ordering.{nat_cmp, ordering_index}
 use Rattle.std.proofs.lemmas.Bool.{cases_Bool, cases_lt, eq-eqb, eqb-true, lt-ltb}
 use Rattle.std.proofs.lemmas.Bool.Decides.{nat_tests}
 use Rattle.std.proofs.lemmas.Cmp.{ranked}
-use Rattle.std.proofs.lemmas.List.Elements.{Contains-append_cases, Contains-append_left, Contains-append_right, Contains-get_or, filter_agree}
+use Rattle.std.proofs.lemmas.List.Elements.{Contains-append_cases, Contains-append_left, Contains-append_right}
+use Rattle.std.proofs.lemmas.List.Elements.{Contains-get_or, filter_agree}
 use Rattle.std.proofs.lemmas.List.Folds.{Any-from_list_any, list_any_at}
 use Rattle.std.proofs.lemmas.List.Sorted.{Contains-permutation, IsPermutation-sym}
 use Rattle.std.proofs.lemmas.Option.{slice_get_within}
@@ -19,7 +22,8 @@ use Rattle.history_merge.specs.Faults.{is_initial}
 use Rattle.history_merge.specs.Initial.{Contents, initial_enqueues, later_by}
 use Rattle.history_merge.specs.Inner.Timeline.{timeline}
 use Rattle.history_merge.specs.Operations.{enqueued_value}
-use Rattle.history_merge.proofs.Distinct.{contains_cons, found_first, not_in_none, place_of, contains_at, same_value_call}
+use Rattle.history_merge.proofs.Distinct.{contains_cons, found_first, not_in_none, place_of, contains_at}
+use Rattle.history_merge.proofs.Distinct.{same_value_call}
 use Rattle.value_match.specs.Times.{initial_enqueue}
 use Rattle.value_match.proofs.Lists.{keeps, kept, mapped_from, mapped_to, one_deeper}
 use Rattle.value_match.proofs.HistoryPlaces.{enqueue_place, enqueue_stands, few_initial, mapped_option}
@@ -37,11 +41,13 @@ use Rattle.value_match.proofs.FreshDequeues.{calls_for}
 
 -- ---- a search by value
 
-comparisons_rise : (xs : List Produced) (v : ℕ) → IsNonDecreasingBy (λ x. x.value) xs → IsNonDecreasingBy (λ x. ordering_index (nat_cmp x.value v)) xs
+comparisons_rise : (xs : List Produced) (v : ℕ) → IsNonDecreasingBy (λ x. x.value) xs
+    → IsNonDecreasingBy (λ x. ordering_index (nat_cmp x.value v)) xs
 comparisons_rise xs v rise i j d le within = let values = rise i j d le within in grind (arith, nat_tests)
 
 -- a search finds the place of a value, or there is none
-pub searched_by_value : (xs : List Produced) (v : ℕ) (r : Result ℕ ℕ) → IsNonDecreasingBy (λ x. x.value) xs → IsSearchInRange r (length xs)
+pub searched_by_value : (xs : List Produced) (v : ℕ) (r : Result ℕ ℕ) → IsNonDecreasingBy (λ x. x.value) xs
+    → IsSearchInRange r (length xs)
     → IsBinarySearchResult (λ x. nat_cmp x.value v) xs r
     → MatchResult r (λ i. (i < length xs) × ((d : Produced) → (get_or xs i d).value ≡ v))
     (λ _. (k : ℕ) (d : Produced) → k < length xs → (get_or xs k d).value ≢ v)
@@ -53,7 +59,8 @@ searched_by_value xs v (Err i) rise in_range parted =
       | inr more ↦ let after : v < (get_or xs k d).value = ranked _ v _ (sym (parts.1 k d more within)) in omega arith
     ]
 
-pub found_producer : (whole : Contents) (xs : List Produced) (v i : ℕ) (d : Produced) → AreProducers whole xs → i < length xs
+pub found_producer : (whole : Contents) (xs : List Produced) (v i : ℕ) (d : Produced) → AreProducers whole xs
+    → i < length xs
     → (get_or xs i d).value ≡ v → Some (get_or xs i d).producer ≡ producer_of whole v
 found_producer whole xs v i d are below is = sym (are.right (get_or xs i d) (Contains-get_or xs i d below)) ∙ ap (producer_of whole) is
 
@@ -110,7 +117,8 @@ module _ (whole : Contents) (complete : AreComplete (timeline whole.initial whol
       let any = Any-from_list_any (λ w. nat_eq w v) whole.initial is in
       place_of whole.initial v (subst (Contains whole.initial) (eqb-true any.1 v any.4) (any.0, any.2, any.3))
 
-  is_early : (j v : ℕ) → slice_get whole.initial j ≡ Some v → (initial_enqueue (length whole.initial) j v).call < ORIGIN
+  is_early : (j v : ℕ) → slice_get whole.initial j ≡ Some v
+      → (initial_enqueue (length whole.initial) j v).call < ORIGIN
   is_early j v at = let within = slice_get_within whole.initial j v at in omega (arith, few)
 
   at_initial : (o : Operation) (v : ℕ) → Contains (initial_enqueues whole.initial) o → enqueued_value o.kind ≡ Some v
@@ -127,7 +135,8 @@ module _ (whole : Contents) (complete : AreComplete (timeline whole.initial whol
       let early : nat_lt o.call ORIGIN ≡ true = lt-ltb o.call ORIGIN (subst (λ n. n < ORIGIN) calls (is_early found.0 found.1 found.2)) in
       rw (initial, early) refl
 
-  at_later : (o : Operation) (v : ℕ) → Contains (map (later_by ORIGIN) whole.operations) o → enqueued_value o.kind ≡ Some v
+  at_later : (o : Operation) (v : ℕ) → Contains (map (later_by ORIGIN) whole.operations) o
+      → enqueued_value o.kind ≡ Some v
       → producer_of whole v ≡ Some (producer_at o)
   at_later o v there is =
       let from = mapped_from (later_by ORIGIN) whole.operations o there in
@@ -158,14 +167,16 @@ module _ (whole : Contents) (complete : AreComplete (timeline whole.initial whol
       ]
 
   -- the producer of an operation's value is that of the operation
-  at_source : (o : Operation) (v : ℕ) → Contains all o → enqueued_value o.kind ≡ Some v → producer_of whole v ≡ Some (producer_at o)
+  at_source : (o : Operation) (v : ℕ) → Contains all o → enqueued_value o.kind ≡ Some v
+      → producer_of whole v ≡ Some (producer_at o)
   at_source o v among is = elim (Contains-append_cases (initial_enqueues whole.initial) (map (later_by ORIGIN) whole.operations) o among) [
     | inl here ↦ at_initial o v here is
     | inr there ↦ at_later o v there is
   ]
 
   -- a value with a producer has an operation
-  source_of : (v : ℕ) (p : Producer) → producer_of whole v ≡ Some p → (o : Operation) × Contains all o × (enqueued_value o.kind ≡ Some v)
+  source_of : (v : ℕ) (p : Producer) → producer_of whole v ≡ Some p
+      → (o : Operation) × Contains all o × (enqueued_value o.kind ≡ Some v)
   source_of v p is = elim (cases_Bool (is_initial whole.initial v)) [
     | inl initial ↦
         let at = initial_place v initial in
@@ -182,7 +193,8 @@ module _ (whole : Contents) (complete : AreComplete (timeline whole.initial whol
   ]
 
   -- the enqueued values, sorted by value, are those with a producer
-  pub are_producers : (listed sorted : List Produced) → listed ≡ filter_map produced_by all → IsPermutation listed sorted
+  pub are_producers : (listed sorted : List Produced) → listed ≡ filter_map produced_by all
+      → IsPermutation listed sorted
       → IsNonDecreasingBy (λ x. x.value) sorted → AreProducers whole sorted
   are_producers listed sorted is moved rises = record {
     rise = rises;
@@ -205,12 +217,14 @@ module _ (whole : Contents) (p : Producer) where
   goes_by_producer None = refl
   goes_by_producer (Some q) = refl
 
-  goes_without_value : (emptiness : Emptiness) → goes_to p (cond (judges_empties emptiness) Everybody Nobody) ≡ judges_empties emptiness
+  goes_without_value : (emptiness : Emptiness)
+      → goes_to p (cond (judges_empties emptiness) Everybody Nobody) ≡ judges_empties emptiness
   goes_without_value Strict = refl
   goes_without_value Weak = refl
 
   goes_by_value : (emptiness : Emptiness) (w : Option ℕ)
-      → goes_to p (option_map_or (λ v. share_of_value (producer_of whole v)) w (cond (judges_empties emptiness) Everybody Nobody))
+      → goes_to p (option_map_or (λ v. share_of_value (producer_of whole v)) w
+      (cond (judges_empties emptiness) Everybody Nobody))
       ≡ option_map_or (counts_for whole p) w (judges_empties emptiness)
   goes_by_value emptiness None = goes_without_value emptiness
   goes_by_value emptiness (Some v) = goes_by_producer (producer_of whole v)
@@ -225,7 +239,8 @@ module _ (whole : Contents) (p : Producer) where
   selected_by_share emptiness operations = filter_agree _ _ (goes_if_selected emptiness) operations
 
 -- an initial value counts for the initial values' producer alone
-counts_initial : (whole : Contents) (v : ℕ) (p : Producer) → Contains whole.initial v → counts_for whole p v ≡ is_producer p Initial
+counts_initial : (whole : Contents) (v : ℕ) (p : Producer) → Contains whole.initial v
+    → counts_for whole p v ≡ is_producer p Initial
 counts_initial whole v p among =
     let initial : is_initial whole.initial v ≡ true =
     list_any_at (λ w. nat_eq w v) whole.initial among.0 v among.1 (eq-eqb (get_or whole.initial among.0 v) v among.2) in
@@ -241,10 +256,12 @@ kept_none q [] each = refl
 kept_none q (x ∷ xs) each = rw (each x (zero, omega arith, refl)) (kept_none q xs (λ y among. each y (one_deeper x xs y among)))
 
 -- the initial values of a producer's selection
-pub initial_selected : (whole : Contents) (p : Producer) → filter (counts_for whole p) whole.initial ≡ initial_of p whole.initial
+pub initial_selected : (whole : Contents) (p : Producer)
+    → filter (counts_for whole p) whole.initial ≡ initial_of p whole.initial
 initial_selected whole Initial = kept_each (counts_for whole Initial) whole.initial (λ v among. counts_initial whole v Initial among)
 initial_selected whole (Thread t) = kept_none (counts_for whole (Thread t)) whole.initial (λ v among. counts_initial whole v (Thread t) among)
 
 -- equal lists have the same value at a place
-pub value_at : (xs ys : List Produced) (v i : ℕ) → xs ≡ ys → ((d : Produced) → (get_or xs i d).value ≡ v) → (d : Produced) → (get_or ys i d).value ≡ v
+pub value_at : (xs ys : List Produced) (v i : ℕ) → xs ≡ ys → ((d : Produced) → (get_or xs i d).value ≡ v)
+    → (d : Produced) → (get_or ys i d).value ≡ v
 value_at xs ys v i same at d = subst (λ (zs : List Produced). (get_or zs i d).value ≡ v) same (at d)

@@ -32,14 +32,16 @@ marks_begin = record { one_each = refl; initial = refl; threads = λ t below. no
 pub nothing_past : (operations : List Operation) (i : ℕ) → i < length operations → ¬ (slice_get operations i ≡ None)
 nothing_past operations i below none = let some = slice_get-get_or operations i past_end below in cc
 
-pub marks_further : (operations : List Operation) (i : ℕ) (o : Operation) (used : List Bool) → slice_get operations i ≡ Some o
+pub marks_further : (operations : List Operation) (i : ℕ) (o : Operation) (used : List Bool)
+    → slice_get operations i ≡ Some o
     → AreMarked (take i operations ++ o ∷ []) used → AreMarked (take (i + 1) operations) used
 marks_further operations i o used at marked =
     subst (λ os. AreMarked os used) (sym (one_more operations i o (slice_get_within operations i o at) (sym (get_or_from_slice_get operations i o o at)))) marked
 
 -- ---- one more operation is shared out
 
-bucket_more : (test : Operation → Bool) (operations : List Operation) (i : ℕ) (o : Operation) (before now : List ℕ) → slice_get operations i ≡ Some o
+bucket_more : (test : Operation → Bool) (operations : List Operation) (i : ℕ) (o : Operation) (before now : List ℕ)
+    → slice_get operations i ≡ Some o
     → now ≡ before ++ cond (test o) (i ∷ []) [] → ArePlacesOf operations before (filter test (take i operations))
     → ArePlacesOf operations now (filter test (take (i + 1) operations))
 bucket_more test operations i o before now at is are = elim (cases_Bool (test o)) [
@@ -49,7 +51,8 @@ bucket_more test operations i o before now at is are = elim (cases_Bool (test o)
       subst (λ ps. ArePlacesOf operations ps (filter test (take (i + 1) operations))) (sym same) (places_same test operations i o at before fails are)
 ]
 
-pub shared_further : (operations : List Operation) (i place : ℕ) (o : Operation) (share : Share) (used : List Bool) (by_value : List Produced)
+pub shared_further : (operations : List Operation) (i place : ℕ) (o : Operation) (share : Share) (used : List Bool)
+    (by_value : List Produced)
     (emptiness : Emptiness) (before after : List (List ℕ)) → slice_get operations i ≡ Some o → place ≡ i
     → ((whole : Contents) → AreProducers whole by_value → share ≡ share_of whole emptiness o.kind) → IsSharedOut share used place before after
     → HasSharedOut operations i used by_value emptiness before → HasSharedOut operations (i + 1) used by_value emptiness after
@@ -64,7 +67,8 @@ shared_further operations i place o share used by_value emptiness before after a
 )
 
 -- all operations are shared out
-pub all_shared_out : (whole : Contents) (emptiness : Emptiness) (operations : List Operation) (count : ℕ) (used : List Bool) (by_value : List Produced)
+pub all_shared_out : (whole : Contents) (emptiness : Emptiness) (operations : List Operation) (count : ℕ)
+    (used : List Bool) (by_value : List Produced)
     (buckets : List (List ℕ)) → whole.operations ≡ operations → length operations ≤ count → AreMarked operations used → AreProducers whole by_value
     → HasSharedOut operations count used by_value emptiness buckets → AreSharedOut emptiness whole used buckets
 all_shared_out whole emptiness operations count used by_value buckets is past marked are has = record {

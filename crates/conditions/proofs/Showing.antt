@@ -1,5 +1,6 @@
 -- Lines that show a violation in a selection of a history show it in the whole.
-use Rattle.std.proofs.Common.{◌≡◌, ℕ, zero, suc, ◌<◌, inl, inr, Bool, true, false, cond, List, [], ◌∷◌, Some, refl, ap, sym, subst, ◌∙◌, arith}
+use Rattle.std.proofs.Common.{◌≡◌, ℕ, zero, suc, ◌<◌, inl, inr, Bool, true, false, cond, List, [], ◌∷◌, Some, refl, ap}
+use Rattle.std.proofs.Common.{sym, subst, ◌∙◌, arith}
 use Rattle.std.specs.Prelude.{Contains, filter, slice_get}
 use Rattle.history_merge.specs.declared.operation.Operation.{Operation}
 use Rattle.history_merge.specs.declared.operation.OpKind.{OpKind}
@@ -18,8 +19,10 @@ use Rattle.verdicts.proofs.NamedLines.{selects_as_value}
 use Rattle.conditions.specs.Laws.{ShowsIn, ViolationsAreOfTheWhole}
 
 -- elements that are kept come in the order that they have among all
-pub kept_in_order : {X : Type 0} (p : X → Bool) (xs : List X) (i j : ℕ) (x y : X) → i < j → slice_get (filter p xs) i ≡ Some x
-    → slice_get (filter p xs) j ≡ Some y → (k : ℕ) × (l : ℕ) × (k < l) × (slice_get xs k ≡ Some x) × (slice_get xs l ≡ Some y)
+pub kept_in_order : {X : Type 0} (p : X → Bool) (xs : List X) (i j : ℕ) (x y : X) → i < j
+    → slice_get (filter p xs) i ≡ Some x
+    → slice_get (filter p xs) j ≡ Some y
+    → (k : ℕ) × (l : ℕ) × (k < l) × (slice_get xs k ≡ Some x) × (slice_get xs l ≡ Some y)
 kept_in_order p [] i j x y less at_i at_j = cc
 kept_in_order {X} p (z ∷ xs) i j x y less at_i at_j = by_test (p z) i j less at_i at_j (λ i j. kept_in_order p xs i j x y)
   where
@@ -46,12 +49,14 @@ module _ (values empties : ℕ → Bool) (whole : Contents) where
   in_whole o among = (passed_filter (selects values empties) whole.operations o among).0
 
   -- a line of this kind in the selection is one of this kind in the whole
-  did_in_whole : (line : ClaimLine) (kind : OpKind) → LineDid part.initial part.operations line kind → LineDid whole.initial whole.operations line kind
+  did_in_whole : (line : ClaimLine) (kind : OpKind) → LineDid part.initial part.operations line kind
+      → LineDid whole.initial whole.operations line kind
   did_in_whole (Op o) kind did = (in_whole o did.0, did.1)
   did_in_whole (Initial v) kind did = ((passed_filter values whole.initial v did.0).0, did.1)
 
   -- the value of such a line is selected
-  value_selected : (line : ClaimLine) (kind : OpKind) (v : ℕ) → value_of kind ≡ Some v → LineDid part.initial part.operations line kind → values v ≡ true
+  value_selected : (line : ClaimLine) (kind : OpKind) (v : ℕ) → value_of kind ≡ Some v
+      → LineDid part.initial part.operations line kind → values v ≡ true
   value_selected (Op o) kind v is did =
       sym (selects_as_value values empties o v (ap value_of did.1 ∙ is)) ∙ (passed_filter (selects values empties) whole.operations o did.0).1
   value_selected (Initial w) kind v is did =
@@ -60,7 +65,8 @@ module _ (values empties : ℕ → Bool) (whole : Contents) where
       subst (λ u. values u ≡ true) one (passed_filter values whole.initial w did.0).1
 
   -- if no line of the selection is of this kind, with a selected value, none of the whole is
-  none_in_whole : (kind : OpKind) (v : ℕ) → value_of kind ≡ Some v → values v ≡ true → NoLineDid part.initial part.operations kind
+  none_in_whole : (kind : OpKind) (v : ℕ) → value_of kind ≡ Some v → values v ≡ true
+      → NoLineDid part.initial part.operations kind
       → NoLineDid whole.initial whole.operations kind
   none_in_whole kind v is selected none (Op o) did =
       none (Op o) (passes_filter (selects values empties) whole.operations o (selects_as_value values empties o v (ap value_of did.1 ∙ is) ∙ selected) did.0, did.1)
@@ -75,13 +81,15 @@ module _ (values empties : ℕ → Bool) (whole : Contents) where
   precedes_in_whole (Initial v) (Op y) before = before
   precedes_in_whole (Initial v) (Initial w) before = kept_in_order values whole.initial before.0 before.1 v w before.2 before.3 before.4
 
-  leaves_in_whole : (line : ClaimLine) (v : ℕ) (deq : List ClaimLine) → values v ≡ true → LeavesAfter part.initial part.operations line v deq
+  leaves_in_whole : (line : ClaimLine) (v : ℕ) (deq : List ClaimLine) → values v ≡ true
+      → LeavesAfter part.initial part.operations line v deq
       → LeavesAfter whole.initial whole.operations line v deq
   leaves_in_whole line v [] selected leaves = none_in_whole (Dequeue v) v refl selected leaves
   leaves_in_whole line v (deq ∷ []) selected leaves = (did_in_whole deq (Dequeue v) leaves.0, precedes_in_whole line deq leaves.1)
   leaves_in_whole line v (deq ∷ next ∷ rest) selected leaves = absurd leaves
 
-  fresh_in_whole : (lines : List ClaimLine) → ShowsFresh part.initial part.operations lines → ShowsFresh whole.initial whole.operations lines
+  fresh_in_whole : (lines : List ClaimLine) → ShowsFresh part.initial part.operations lines
+      → ShowsFresh whole.initial whole.operations lines
   fresh_in_whole [] shown = absurd shown
   fresh_in_whole (deq ∷ []) shown =
       let v = shown.0 in
@@ -98,7 +106,8 @@ module _ (values empties : ℕ → Bool) (whole : Contents) where
       )
   fresh_in_whole (deq ∷ enq ∷ next ∷ rest) shown = absurd shown
 
-  repeat_in_whole : (lines : List ClaimLine) → ShowsRepeat part.initial part.operations lines → ShowsRepeat whole.initial whole.operations lines
+  repeat_in_whole : (lines : List ClaimLine) → ShowsRepeat part.initial part.operations lines
+      → ShowsRepeat whole.initial whole.operations lines
   repeat_in_whole [] shown = absurd shown
   repeat_in_whole (enq ∷ []) shown = absurd shown
   repeat_in_whole (enq ∷ first ∷ []) shown = absurd shown
@@ -107,7 +116,8 @@ module _ (values empties : ℕ → Bool) (whole : Contents) where
       (v, did_in_whole enq (Enqueue v) shown.1, did_in_whole first (Dequeue v) shown.2, did_in_whole second (Dequeue v) shown.3, shown.4)
   repeat_in_whole (enq ∷ first ∷ second ∷ next ∷ rest) shown = absurd shown
 
-  order_in_whole : (lines : List ClaimLine) → ShowsOrder part.initial part.operations lines → ShowsOrder whole.initial whole.operations lines
+  order_in_whole : (lines : List ClaimLine) → ShowsOrder part.initial part.operations lines
+      → ShowsOrder whole.initial whole.operations lines
   order_in_whole [] shown = absurd shown
   order_in_whole (enq_a ∷ []) shown = absurd shown
   order_in_whole (enq_a ∷ enq_b ∷ []) shown = absurd shown
@@ -127,7 +137,8 @@ module _ (values empties : ℕ → Bool) (whole : Contents) where
       → EnqueuedBefore whole.initial whole.operations line enq v
   entered_in_whole line enq v entered = (did_in_whole enq (Enqueue v) entered.0, precedes_in_whole enq line entered.1)
 
-  cover_in_whole : (empty line : ClaimLine) (lines : List ClaimLine) → LinesCover part.initial part.operations empty line lines
+  cover_in_whole : (empty line : ClaimLine) (lines : List ClaimLine)
+      → LinesCover part.initial part.operations empty line lines
       → LinesCover whole.initial whole.operations empty line lines
   cover_in_whole empty line [] covers = absurd covers
   cover_in_whole empty line (enq ∷ []) covers = (
@@ -147,7 +158,8 @@ module _ (values empties : ℕ → Bool) (whole : Contents) where
     cover_in_whole empty deq (next ∷ rest) covers.3,
   )
 
-  witness_in_whole : (lines : List ClaimLine) → ShowsWitness part.initial part.operations lines → ShowsWitness whole.initial whole.operations lines
+  witness_in_whole : (lines : List ClaimLine) → ShowsWitness part.initial part.operations lines
+      → ShowsWitness whole.initial whole.operations lines
   witness_in_whole [] shown = absurd shown
   witness_in_whole (empty ∷ cover) shown = (did_in_whole empty DequeueEmpty shown.0, cover_in_whole empty empty cover shown.1)
 

@@ -3,7 +3,8 @@ use Rattle.std.proofs.Common.{◌≡◌, Bool, true, false, cond, List, [], ◌�
 use Rattle.std.specs.Prelude.{filter}
 
 -- elements that pass one test and then another pass both
-pub filtered_twice : {X : Type 0} (p q r : X → Bool) (xs : List X) → ((x : X) → r x ≡ cond (q x) (p x) false) → filter p (filter q xs) ≡ filter r xs
+pub filtered_twice : {X : Type 0} (p q r : X → Bool) (xs : List X) → ((x : X) → r x ≡ cond (q x) (p x) false)
+    → filter p (filter q xs) ≡ filter r xs
 filtered_twice p q r [] both = refl
 filtered_twice {X} p q r (x ∷ xs) both = pick (q x) (p x) (r x) (both x) refl (filtered_twice p q r xs both)
   where

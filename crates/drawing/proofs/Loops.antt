@@ -26,11 +26,13 @@ pub range_more : (n : ℕ) → range_with_len 0 (n + 1) ≡ range_with_len 0 n +
 range_more n = sym (map-id _) ∙ map-range_with_len_more (λ k. k) 0 n n (zero-add n) ∙ ap (λ (ks : List ℕ). ks ++ n ∷ []) (map-id _)
 
 -- the point of the next operation of an order
-pub point_more : (order : List Operation) (i : ℕ) (d : Operation) (greatest v : ℕ) → i < length order → greatest ≡ greatest_call (take i order)
+pub point_more : (order : List Operation) (i : ℕ) (d : Operation) (greatest v : ℕ) → i < length order
+    → greatest ≡ greatest_call (take i order)
     → v ≡ max greatest (get_or order i d).call → v ≡ point order i
 point_more order i d greatest v within so_far this = grind (arith, fold_more)
 
-enumerated-append : {X : Type 0} (a : ℕ) (xs : List X) (x : X) → enumerate_from a (xs ++ x ∷ []) ≡ enumerate_from a xs ++ (a + length xs, x) ∷ []
+enumerated-append : {X : Type 0} (a : ℕ) (xs : List X) (x : X)
+    → enumerate_from a (xs ++ x ∷ []) ≡ enumerate_from a xs ++ (a + length xs, x) ∷ []
 enumerated-append a [] x = let e : a ≡ a + 0 = omega arith in ap (λ (i : ℕ). (i, x) ∷ []) e
 enumerated-append a (y ∷ ys) x = grind (arith, enumerated-append (a + 1) ys x)
 
@@ -41,7 +43,8 @@ enumerated_more xs i d within = grind (arith, nat_tests, common_steps, length-ta
 
 -- one more element, at the read that `grind` finds
 pub enumerate_at_read : {X : Type 0} (xs : List X) (i : ℕ) (d : X) → i < length xs
-    → (get_or xs i d ≡ get_or xs i d) × (enumerate_from 0 (take (i + 1) xs) ≡ enumerate_from 0 (take i xs) ++ (i, get_or xs i d) ∷ [])
+    → (get_or xs i d ≡ get_or xs i d)
+    × (enumerate_from 0 (take (i + 1) xs) ≡ enumerate_from 0 (take i xs) ++ (i, get_or xs i d) ∷ [])
 enumerate_at_read xs i d within = (refl, enumerated_more xs i d within)
 
 -- one more place of a loop

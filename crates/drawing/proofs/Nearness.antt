@@ -17,7 +17,8 @@ use Rattle.std.specs.List.Sorted.{IsPartitionedBy}
 use Rattle.drawing.specs.Pending.{is_added}
 use Rattle.event_records.specs.Turns.{TicketsRise}
 use Rattle.claims.specs.declared.claimed.ClaimLine.TheVariants.{Initial}
-use Rattle.drawing.specs.Laws.{LastsTo, LinesAreOfHistory, LinesHaveNumbers, NoCallsAreAdded, NoOtherBars, NoOthersAreDrawn}
+use Rattle.drawing.specs.Laws.{LastsTo, LinesAreOfHistory, LinesHaveNumbers, NoCallsAreAdded, NoOtherBars}
+use Rattle.drawing.specs.Laws.{NoOthersAreDrawn}
 use Rattle.drawing.specs.Laws.{NumbersAreOfLines}
 use Rattle.drawing.proofs.Below.{fewer, one_fewer}
 use Rattle.std.proofs.lemmas.List.Quantifiers.{position-Some}
@@ -36,12 +37,14 @@ some_passes : {X : Type 0} (p : X → Bool) (xs : List X) → list_any p xs ≡ 
 some_passes p xs is = let one = Any-from_list_any p xs is in (one.1, (one.0, one.2, one.3), one.4)
 
 -- a test of mapped elements
-any_mapped : {X Y : Type 0} (p : Y → Bool) (f : X → Y) (xs : List X) → list_any p (map f xs) ≡ list_any (λ x. p (f x)) xs
+any_mapped : {X Y : Type 0} (p : Y → Bool) (f : X → Y) (xs : List X)
+    → list_any p (map f xs) ≡ list_any (λ x. p (f x)) xs
 any_mapped p f [] = refl
 any_mapped p f (x ∷ xs) = ap (λ (b : Bool). p (f x) || b) (any_mapped p f xs)
 
 -- the number of elements that pass is the place of the first that fails, if none passes after it
-pub counted_up_to : {X : Type 0} (p : X → Bool) (xs : List X) (i : ℕ) → i ≤ length xs → ((k : ℕ) (d : X) → k < i → p (get_or xs k d) ≡ true)
+pub counted_up_to : {X : Type 0} (p : X → Bool) (xs : List X) (i : ℕ) → i ≤ length xs
+    → ((k : ℕ) (d : X) → k < i → p (get_or xs k d) ≡ true)
     → ((k : ℕ) (d : X) → i ≤ k → k < length xs → p (get_or xs k d) ≡ false) → i ≡ count_by p xs
 counted_up_to p [] i within passes fails = omega arith
 counted_up_to p (x ∷ xs) zero within passes fails =
@@ -52,7 +55,8 @@ counted_up_to p (x ∷ xs) (suc i) within passes fails =
     omega (arith, sum_by-cons (λ y. cond {A = ℕ} (p y) 1 0) x xs, later, ap (λ (b : Bool). cond {A = ℕ} b 1 0) (passes 0 x (omega arith)))
 
 -- no ticket is below that of an earlier event
-pub no_earlier_ticket : (events : List Event) → TicketsRise events → (i j : ℕ) (e r : Event) → slice_get events i ≡ Some e → slice_get events j ≡ Some r
+pub no_earlier_ticket : (events : List Event) → TicketsRise events → (i j : ℕ) (e r : Event)
+    → slice_get events i ≡ Some e → slice_get events j ≡ Some r
     → i ≤ j → e.ticket ≤ r.ticket
 no_earlier_ticket events rise i j e r at_i at_j le = elim (cases_lt i j) [
   | inl less ↦ let below = pairs_at (λ e r. e.ticket < r.ticket) events i j e r rise less at_i at_j in omega arith
@@ -63,7 +67,8 @@ no_earlier_ticket events rise i j e r at_i at_j le = elim (cases_lt i j) [
 ]
 
 -- the tickets below a given one come first, since tickets rise
-pub parted_by_ticket : (events : List Event) (ticket : ℕ) → TicketsRise events → IsPartitionedBy (λ e. nat_lt e.ticket ticket) events
+pub parted_by_ticket : (events : List Event) (ticket : ℕ) → TicketsRise events
+    → IsPartitionedBy (λ e. nat_lt e.ticket ticket) events
 parted_by_ticket events ticket rise = IsPartitionedBy-ltb (λ (e : Event). e.ticket) events ticket (λ i j d le within.
     no_earlier_ticket events rise i j _ _ (slice_get-get_or events i d (omega arith)) (slice_get-get_or events j d within) le)
 
@@ -80,7 +85,8 @@ from_operations (Initial v ∷ lines) o among = one_deeper (Initial v) lines (Op
 -- ---- drawn operations
 
 -- each drawn operation is one of the history
-pub among_operations : (history : HistoryView) (claimed : Claimed) (around : Option ℕ) (o : Operation) → Contains (drawn_operations history claimed around) o
+pub among_operations : (history : HistoryView) (claimed : Claimed) (around : Option ℕ) (o : Operation)
+    → Contains (drawn_operations history claimed around) o
     → Contains (operations_of history.events) o
 among_operations history (Yes listed) around o among = among
 among_operations history (No kind lines) None o among = among
@@ -136,7 +142,8 @@ lines_are_drawn history kind lines around complete all_among o listed =
 -- ---- bars
 
 -- if an element passes a test, `find` gives one
-pub found : {X : Type 0} (p : X → Bool) (xs : List X) (x : X) → Contains xs x → p x ≡ true → (r : X) × (find p xs ≡ Some r)
+pub found : {X : Type 0} (p : X → Bool) (xs : List X) (x : X) → Contains xs x → p x ≡ true
+    → (r : X) × (find p xs ≡ Some r)
 found p [] x among passes = absurd (not_in_none x among)
 found p (y ∷ ys) x among passes = cond_both (p y) (Some y) (find p ys) (λ f. (r : _) × (f ≡ Some r)) (λ is. (y, refl)) (λ is. elim (contains_cons y ys x among) [
   | inl here ↦ let clash : false ≡ true = sym is ∙ ap p here ∙ passes in cc
@@ -156,7 +163,8 @@ no_other_bars added_from operations thread ticket o is =
     }
 
 -- a ticket that wasn't added is below each one that was
-pub seen_before_added : (added_from : Option ℕ) (seen added : ℕ) → is_added added_from seen ≡ false → is_added added_from added ≡ true → seen ≤ added
+pub seen_before_added : (added_from : Option ℕ) (seen added : ℕ) → is_added added_from seen ≡ false
+    → is_added added_from added ≡ true → seen ≤ added
 seen_before_added None seen added before from = cc
 seen_before_added (Some first) seen added before from = grind (arith, nat_tests)
 
@@ -181,13 +189,15 @@ module _ (events : List Event) (complete : IsCompleteHistory events) where
   ]
 
   -- an operation that lasts to a ticket doesn't return before others that are called up to that ticket
-  lasts_over : (added_from : Option ℕ) (x y : Operation) (c : ℕ) → NoCallsAreAdded added_from (operations_of events) → Contains (operations_of events) y
+  lasts_over : (added_from : Option ℕ) (x y : Operation) (c : ℕ) → NoCallsAreAdded added_from (operations_of events)
+      → Contains (operations_of events) y
       → LastsTo added_from c x → y.call ≤ c → y.call ≤ x.ret
   lasts_over added_from x y c no_calls in_y (inl to) from = omega arith
   lasts_over added_from x y c no_calls in_y (inr pending) from = seen_before_added added_from y.call x.ret (no_calls y in_y) pending
 
   -- at most one operation of a thread is under way at a ticket
-  one_bar : (x y : Operation) → Contains (operations_of events) x → Contains (operations_of events) y → x.thread ≡ y.thread → y.call ≤ x.ret
+  one_bar : (x y : Operation) → Contains (operations_of events) x → Contains (operations_of events) y
+      → x.thread ≡ y.thread → y.call ≤ x.ret
       → x.call ≤ y.ret → x ≡ y
   one_bar x y in_x in_y threads x_lasts y_lasts =
       let tx = traced events x in_x in
@@ -219,11 +229,13 @@ bars_are_of_operations history claimed around added_from o ticket complete no_ca
 -- ---- the numbers of a claim, and its lines of evidence, which are operations and initial values of the history
 
 -- the first place at which an element passes is within the list
-place_if : {X : Type 0} (d : X) (xs : List X) (p : X → Bool) (i : ℕ) → position p xs ≡ Some i → (x : X) × (slice_get xs i ≡ Some x) × (p x ≡ true)
+place_if : {X : Type 0} (d : X) (xs : List X) (p : X → Bool) (i : ℕ) → position p xs ≡ Some i
+    → (x : X) × (slice_get xs i ≡ Some x) × (p x ≡ true)
 place_if d xs p i at = let first = position-Some p xs i d at in (get_or xs i d, slice_get-get_or xs i d first.0, first.1)
 
 -- if a line passes a test, there is a first place at which one does
-place_of_one : (lines : List ClaimLine) (p : ClaimLine → Bool) (x : ClaimLine) → Contains lines x → p x ≡ true → (i : ℕ) × (position p lines ≡ Some i)
+place_of_one : (lines : List ClaimLine) (p : ClaimLine → Bool) (x : ClaimLine) → Contains lines x → p x ≡ true
+    → (i : ℕ) × (position p lines ≡ Some i)
 place_of_one lines p x among passes =
     let some = found p lines x among passes in
     let at : slice_get lines (position_or_len p lines) ≡ Some some.0 = sym (find_at p lines) ∙ some.1 in
@@ -234,7 +246,8 @@ place_of_one lines p x among passes =
 pub numbers_are_of_lines : NumbersAreOfLines
 numbers_are_of_lines events lines o i complete all_among among at = let h = place_if (Initial 0) lines (stands_in (row.Ticket o.call)) i at in same_line h.0 h.1 h.2
   where
-    same_line : (x : ClaimLine) → slice_get lines i ≡ Some x → stands_in (row.Ticket o.call) x ≡ true → slice_get lines i ≡ Some (Op o)
+    same_line : (x : ClaimLine) → slice_get lines i ≡ Some x → stands_in (row.Ticket o.call) x ≡ true
+        → slice_get lines i ≡ Some (Op o)
     same_line (Op listed) here passes =
         let line_among = all_among listed (contains_at lines i (Op listed) here) in
         let same = same_call (operations_of events) listed o (operations_are_complete events complete) line_among among (eqb-true listed.call o.call passes) in
@@ -249,7 +262,8 @@ lines_have_numbers lines o among = place_of_one lines (stands_in (row.Ticket o.c
 pub initial_numbers_are_of_lines : InitialNumbersAreOfLines
 initial_numbers_are_of_lines lines j v i at = let h = place_if (Initial 0) lines (stands_in (row.Initial j v)) i at in same_line h.0 h.1 h.2
   where
-    same_line : (x : ClaimLine) → slice_get lines i ≡ Some x → stands_in (row.Initial j v) x ≡ true → slice_get lines i ≡ Some (Initial v)
+    same_line : (x : ClaimLine) → slice_get lines i ≡ Some x → stands_in (row.Initial j v) x ≡ true
+        → slice_get lines i ≡ Some (Initial v)
     same_line (Op o) here passes = cc
     same_line (Initial listed) here passes = here ∙ ap (λ (x : ℕ). Some (Initial x)) (eqb-true listed v passes)
 

@@ -7,10 +7,13 @@ use Rattle.drawing.proofs.Common.{get_or-enumerate_from, get_or_from_slice_get, 
 use Rattle.drawing.proofs.Common.{initial_rows, InitialRowsAreFirst, InitialValuesHaveRows, inl, inr}
 use Rattle.drawing.proofs.Common.{IsPermutation-sym, left_out_rows, length, length-enumerate_from, List, max, nat_eq}
 use Rattle.drawing.proofs.Common.{nat_tests, not_in_none, one_at, Operation, operation_within, operations_of}
-use Rattle.drawing.proofs.Common.{OperationsHaveRows, pairs_at, passes_filter, point, Precedes, refl, returns_at_no_call, Row}
+use Rattle.drawing.proofs.Common.{OperationsHaveRows, pairs_at, passes_filter, point, Precedes, refl}
+use Rattle.drawing.proofs.Common.{returns_at_no_call, Row}
 use Rattle.drawing.proofs.Common.{row_number, rows_after, rows_of, RowsRise, RowsTellPrecedence, slice_get}
-use Rattle.drawing.proofs.Common.{slice_get-get_or, slice_get_within, Some, stands_above, subst, suc, sum_by, sum_by-append, sum_by-cons}
-use Rattle.drawing.proofs.Common.{sym, take, traced, true, values_left_out, Yes, zero, zero-add, [], ℕ, ◌++◌, ◌+◌, ◌-◌, ◌<◌, ◌||◌, ◌∙◌, ◌∷◌}
+use Rattle.drawing.proofs.Common.{slice_get-get_or, slice_get_within, Some, stands_above, subst, suc, sum_by}
+use Rattle.drawing.proofs.Common.{sum_by-append, sum_by-cons}
+use Rattle.drawing.proofs.Common.{sym, take, traced, true, values_left_out, Yes, zero, zero-add, [], ℕ, ◌++◌, ◌+◌, ◌-◌}
+use Rattle.drawing.proofs.Common.{◌<◌, ◌||◌, ◌∙◌, ◌∷◌}
 use Rattle.drawing.proofs.Common.{◌≡◌, ◌≤◌, ◌⊎◌}
 use Rattle.history_merge.specs.Legal.{IsLegalOrder}
 use Rattle.drawing.specs.Laws.{EffectRowsAreInBars, EffectRowsRise, EffectsAreInBars, EffectsHaveRows, EffectsRise}
@@ -36,7 +39,8 @@ from_rises g [] = omega arith
 from_rises g (o ∷ rest) = let more = from_rises (max g o.call) rest in omega arith
 
 -- the greatest call rises with more operations
-longer : (g : ℕ) (operations : List Operation) (m n : ℕ) → m ≤ n → greatest_from g (take m operations) ≤ greatest_from g (take n operations)
+longer : (g : ℕ) (operations : List Operation) (m n : ℕ) → m ≤ n
+    → greatest_from g (take m operations) ≤ greatest_from g (take n operations)
 longer g operations zero n le = from_rises g (take n operations)
 longer g operations (suc m) zero le = absurd (omega arith)
 longer g [] (suc m) (suc n) le = omega arith
@@ -47,14 +51,16 @@ pub effects_rise : EffectsRise
 effects_rise order i j le = longer 0 order (i + 1) (j + 1) (omega arith)
 
 -- the call of the operation at a place is at most the point there
-call_at_most : (g : ℕ) (order : List Operation) (i : ℕ) (o : Operation) → slice_get order i ≡ Some o → o.call ≤ greatest_from g (take (suc i) order)
+call_at_most : (g : ℕ) (order : List Operation) (i : ℕ) (o : Operation) → slice_get order i ≡ Some o
+    → o.call ≤ greatest_from g (take (suc i) order)
 call_at_most g [] i o at = absurd (cc)
 call_at_most g (x ∷ rest) zero o at = let same : x ≡ o = cc in let more = from_rises (max g x.call) (take zero rest) in let e : x.call ≡ o.call =
     ap (λ y. y.call) same in omega arith
 call_at_most g (x ∷ rest) (suc i) o at = call_at_most (max g x.call) rest i o at
 
 -- a property of each call holds of the greatest
-of_greatest : (P : ℕ → Type 0) (g : ℕ) (order : List Operation) (k : ℕ) → P g → ((j : ℕ) (o : Operation) → j < k → slice_get order j ≡ Some o → P o.call)
+of_greatest : (P : ℕ → Type 0) (g : ℕ) (order : List Operation) (k : ℕ) → P g
+    → ((j : ℕ) (o : Operation) → j < k → slice_get order j ≡ Some o → P o.call)
     → P (greatest_from g (take k order))
 of_greatest P g order zero holds each = holds
 of_greatest P g [] (suc k) holds each = holds
@@ -68,7 +74,8 @@ of_greatest P g (x ∷ rest) (suc k) holds each =
 -- an operation of a linearization takes effect just after the event of a call
 pub point_is_a_call : (initial : List ℕ) (events : List Event) (order : List Operation) (i : ℕ) (o : Operation)
     → IsLegalOrder initial (operations_of events) order → slice_get order i ≡ Some o
-    → (e : Event) × (Contains events e) × ((o : Operation) × Contains (operations_of events) o × (o.call ≡ e.ticket)) × (e.ticket ≡ point order i)
+    → (e : Event) × (Contains events e) × ((o : Operation) × Contains (operations_of events) o × (o.call ≡ e.ticket))
+    × (e.ticket ≡ point order i)
 point_is_a_call initial events [] i o legal at = absurd (cc)
 point_is_a_call initial events (x ∷ rest) i o legal at =
     let first : max 0 x.call ≡ x.call = omega arith in
@@ -130,14 +137,16 @@ no_lower rows s t no_later = fewer (λ a. stands_above a (Ticket s)) (λ a. stan
 
 -- ---- rows of their own
 
-in_enumerated : {X : Type 0} (xs : List X) (i : ℕ) (x : X) → slice_get xs i ≡ Some x → Contains (enumerate_from 0 xs) (i, x)
+in_enumerated : {X : Type 0} (xs : List X) (i : ℕ) (x : X) → slice_get xs i ≡ Some x
+    → Contains (enumerate_from 0 xs) (i, x)
 in_enumerated xs i x at =
     let within = slice_get_within xs i x at in
     let here = get_or-enumerate_from 0 xs i (i, x) within in
     (i, omega (arith, length-enumerate_from 0 xs), here ∙ ap₂ (λ n y. (n, y)) (zero-add i) (get_or_from_slice_get xs i x x at))
 
 -- a drawn initial value is among the rows of initial values, if there are any
-in_initial_rows : (initial drawn : List ℕ) (j v : ℕ) → 0 < length initial → slice_get drawn j ≡ Some v → Contains (initial_rows initial drawn) (Initial j v)
+in_initial_rows : (initial drawn : List ℕ) (j v : ℕ) → 0 < length initial → slice_get drawn j ≡ Some v
+    → Contains (initial_rows initial drawn) (Initial j v)
 in_initial_rows [] drawn j v some at = absurd (omega arith)
 in_initial_rows (front ∷ others) drawn j v some at =
     let own = flat_map initial_row (enumerate_from 0 drawn) in
@@ -146,7 +155,8 @@ in_initial_rows (front ∷ others) drawn j v some at =
     (into_flat_map initial_row (enumerate_from 0 drawn) (j, v) (Initial j v) (in_enumerated drawn j v at) (contains_at (Initial j v ∷ []) 0 (Initial j v) refl)))
 
 -- so it is among all rows
-drawn_has_row : (history : HistoryView) (claimed : Claimed) (drawn : List Operation) (j v : ℕ) → slice_get (drawn_initial history claimed drawn) j ≡ Some v
+drawn_has_row : (history : HistoryView) (claimed : Claimed) (drawn : List Operation) (j v : ℕ)
+    → slice_get (drawn_initial history claimed drawn) j ≡ Some v
     → Contains (rows_of history claimed drawn) (Initial j v)
 unfolding rows_of
 drawn_has_row history claimed drawn j v at =
@@ -157,7 +167,8 @@ drawn_has_row history claimed drawn j v at =
     (in_initial_rows history.initial values j v (omega arith) at)
 
 -- an initial value that matters is drawn
-matters_is_drawn : (claimed : Claimed) (drawn : List Operation) (v : ℕ) → Matters claimed drawn v → is_drawn_initial claimed drawn v ≡ true
+matters_is_drawn : (claimed : Claimed) (drawn : List Operation) (v : ℕ) → Matters claimed drawn v
+    → is_drawn_initial claimed drawn v ≡ true
 matters_is_drawn claimed drawn v (inl listed) =
     let is = any_of (is_initial v) (shown_by claimed) (line.Initial v) listed (eq-eqb v v refl) in grind (arith, is)
 matters_is_drawn claimed drawn v (inr (o, among, has)) =
@@ -170,8 +181,10 @@ initial_values_have_rows history claimed drawn v among matters =
     (kept.0, drawn_has_row history claimed drawn kept.0 v (slice_get-get_or values kept.0 v kept.1 ∙ ap Some kept.2))
 
 -- the row of an event that has its own is one of all rows
-module _ (drawn order : List Operation) (e : Event) (r : Row) (own : has_row drawn e.ticket ≡ true) (here : Contains (event_rows order e) r) where
-  in_rows_after : (count last : ℕ) (events : List Event) → Contains events e → Contains (rows_after drawn order count last events) r
+module _ (drawn order : List Operation) (e : Event) (r : Row)
+    (own : has_row drawn e.ticket ≡ true) (here : Contains (event_rows order e) r) where
+  in_rows_after : (count last : ℕ) (events : List Event) → Contains events e
+      → Contains (rows_after drawn order count last events) r
   in_rows_after count last [] among = absurd (not_in_none e among)
   in_rows_after count last (x ∷ later) among =
       cond_both (has_row drawn x.ticket) (left_out_rows count last ++ (event_rows order x ++ rows_after drawn order 0 last later))
@@ -187,8 +200,10 @@ module _ (drawn order : List Operation) (e : Event) (r : Row) (own : has_row dra
         | inr there ↦ in_rows_after (count + 1) x.ticket later there
       ])
 
-with_event : (history : HistoryView) (claimed : Claimed) (drawn : List Operation) (e : Event) (r : Row) → Contains history.events e
-    → has_row drawn e.ticket ≡ true → Contains (event_rows (order_of claimed) e) r → Contains (rows_of history claimed drawn) r
+with_event : (history : HistoryView) (claimed : Claimed) (drawn : List Operation) (e : Event) (r : Row)
+    → Contains history.events e
+    → has_row drawn e.ticket ≡ true → Contains (event_rows (order_of claimed) e) r
+    → Contains (rows_of history claimed drawn) r
 unfolding rows_of
 with_event history claimed drawn e r among own here =
     Contains-append_right (initial_rows history.initial (drawn_initial history claimed drawn))
@@ -196,7 +211,8 @@ with_event history claimed drawn e r among own here =
     (in_rows_after drawn (order_of claimed) e r own here 0 0 history.events among)
 
 -- the event of a drawn operation has its own row
-has_own : (drawn : List Operation) (o : Operation) (ticket : ℕ) → Contains drawn o → (o.call ≡ ticket) ⊎ (o.ret ≡ ticket) → has_row drawn ticket ≡ true
+has_own : (drawn : List Operation) (o : Operation) (ticket : ℕ) → Contains drawn o
+    → (o.call ≡ ticket) ⊎ (o.ret ≡ ticket) → has_row drawn ticket ≡ true
 has_own drawn o ticket among at = any_of (λ o. nat_eq o.call ticket || nat_eq o.ret ticket) drawn o among (grind (arith, nat_tests, at))
 
 pub operations_have_rows : OperationsHaveRows
@@ -214,7 +230,8 @@ operations_have_rows history claimed drawn o among drawn_too =
 
 -- ---- events are counted
 
-none_in_all : {X : Type 0} (m : Row → ℕ) (f : X → List Row) → ((x : X) → sum_by m (f x) ≡ 0) → (xs : List X) → sum_by m (flat_map f xs) ≡ 0
+none_in_all : {X : Type 0} (m : Row → ℕ) (f : X → List Row) → ((x : X) → sum_by m (f x) ≡ 0) → (xs : List X)
+    → sum_by m (flat_map f xs) ≡ 0
 none_in_all m f none [] = refl
 none_in_all m f none (x ∷ xs) = grind (arith, sum_by-append, none_in_all m f none xs)
 
@@ -261,14 +278,16 @@ events_are_counted history claimed drawn =
 
 -- ---- initial values are counted
 
-counted_own : (a : ℕ) (values : List ℕ) → sum_by values_in (flat_map initial_row (enumerate_from a values)) ≡ length values
+counted_own : (a : ℕ) (values : List ℕ)
+    → sum_by values_in (flat_map initial_row (enumerate_from a values)) ≡ length values
 counted_own a [] = refl
 counted_own a (v ∷ values) = let rest = counted_own (a + 1) values in omega (arith, sum_by-cons)
 
 counted_values_left : (count below : ℕ) → sum_by values_in (values_left_out count below) ≡ count
 counted_values_left count below = grind (arith, cond_both, eqb-true, sum_by-cons)
 
-counted_first : (initial drawn : List ℕ) → length drawn ≤ length initial → sum_by values_in (initial_rows initial drawn) ≡ length initial
+counted_first : (initial drawn : List ℕ) → length drawn ≤ length initial
+    → sum_by values_in (initial_rows initial drawn) ≡ length initial
 counted_first [] drawn few = refl
 counted_first (front ∷ others) drawn few =
     let count = length (front ∷ others) - length drawn in
@@ -283,7 +302,8 @@ no_values_with_event : (order : List Operation) (e : Event) → sum_by values_in
 unfolding effect_rows
 no_values_with_event order e = grind (arith, nat_tests, common_steps, none_in_all, cond_both, sum_by-append)
 
-no_values_after : (drawn order : List Operation) (count last : ℕ) (events : List Event) → sum_by values_in (rows_after drawn order count last events) ≡ 0
+no_values_after : (drawn order : List Operation) (count last : ℕ) (events : List Event)
+    → sum_by values_in (rows_after drawn order count last events) ≡ 0
 no_values_after drawn order count last [] = no_values_left count last
 no_values_after drawn order count last (e ∷ later) =
     cond_both (has_row drawn e.ticket) (left_out_rows count last ++ (event_rows order e ++ rows_after drawn order 0 last later))
@@ -305,7 +325,8 @@ values_are_counted history claimed drawn =
     omega (arith, sum_by-append values_in (initial_rows history.initial initial) (rows_after drawn (order_of claimed) 0 0 history.events))
 
 -- the row of an operation's effect is after the event at its point
-after_its_event : (order : List Operation) (i : ℕ) (o : Operation) (e : Event) → slice_get order i ≡ Some o → e.ticket ≡ point order i
+after_its_event : (order : List Operation) (i : ℕ) (o : Operation) (e : Event) → slice_get order i ≡ Some o
+    → e.ticket ≡ point order i
     → Contains (event_rows order e) (Effect o (i + 1) (point order i))
 unfolding effect_rows
 after_its_event order i o e at here =

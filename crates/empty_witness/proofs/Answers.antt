@@ -21,7 +21,8 @@ use Rattle.empty_witness.specs.declared.search.EmptyAnswer.{EmptyAnswer}
 -- ---- empty dequeues at their times
 
 -- an empty dequeue of the history, at its times
-pub answer_timed : (history : Contents) (place : ℕ) (o : Operation) → IsClear (course_of history) → IsEmptyAnswerAt history.operations place
+pub answer_timed : (history : Contents) (place : ℕ) (o : Operation) → IsClear (course_of history)
+    → IsEmptyAnswerAt history.operations place
     → slice_get history.operations place ≡ Some o → IsAt (timed history.operations) place (later_by ORIGIN o)
     × Did (timed history.operations) (later_by ORIGIN o) DequeueEmpty × (o.call ≤ o.ret) × (o.ret + ORIGIN < NEVER)
 answer_timed history place o clear (x, at_x, is) at =
@@ -44,7 +45,8 @@ empties_timed operations places holds = subst (ArePlacesOf (timed operations) pl
 -- ---- the empty dequeues by their places, and one more of them in a scan
 
 -- the operation at a place of a list of places
-pub listed_at : (operations : List Operation) (places : List ℕ) (listed : List Operation) (i p : ℕ) → ArePlacesOf operations places listed
+pub listed_at : (operations : List Operation) (places : List ℕ) (listed : List Operation) (i p : ℕ)
+    → ArePlacesOf operations places listed
     → i < length places → p ≡ get_or places i p
     → (o : Operation) × IsAt operations p o × (i < length listed) × (o ≡ get_or listed i o)
 listed_at operations [] listed i p named within is = absurd (omega arith)
@@ -61,15 +63,18 @@ kind_of_empty DequeueEmpty is = refl
 kind_of_empty _ is = cc
 
 -- each listed empty dequeue is an operation of that kind
-pub is_empty_did : (operations : List Operation) (o : Operation) → Contains (filter is_empty_answer operations) o → Did operations o DequeueEmpty
+pub is_empty_did : (operations : List Operation) (o : Operation) → Contains (filter is_empty_answer operations) o
+    → Did operations o DequeueEmpty
 is_empty_did operations o among = let passed = passed_filter is_empty_answer operations o among in (passed.0, kind_of_empty o.kind passed.1)
 
 -- each operation of that kind is a listed empty dequeue
-pub empty_is_listed : (operations : List Operation) (o : Operation) → Did operations o DequeueEmpty → Contains (filter is_empty_answer operations) o
+pub empty_is_listed : (operations : List Operation) (o : Operation) → Did operations o DequeueEmpty
+    → Contains (filter is_empty_answer operations) o
 empty_is_listed operations o did = passes_filter is_empty_answer operations o (rw did.1 refl) did.0
 
 -- the operation at each of the places is an empty dequeue
-pub places_are_empty : (operations : List Operation) (places : List ℕ) → HoldsPlaces operations is_empty_answer places → All (IsEmptyAnswerAt operations) places
+pub places_are_empty : (operations : List Operation) (places : List ℕ) → HoldsPlaces operations is_empty_answer places
+    → All (IsEmptyAnswerAt operations) places
 places_are_empty operations places named i d within =
     let found = listed_at operations places (filter is_empty_answer operations) i (get_or places i d) named within
     (get_or_default places i d (get_or places i d) within) in
@@ -78,7 +83,8 @@ places_are_empty operations places named i d within =
     (found.0, found.1, (is_empty_did operations found.0 among).1)
 
 -- the operation at the i-th place is an empty dequeue
-pub answer_is_empty : (operations : List Operation) (places : List ℕ) (i place : ℕ) → All (IsEmptyAnswerAt operations) places → i < length places
+pub answer_is_empty : (operations : List Operation) (places : List ℕ) (i place : ℕ)
+    → All (IsEmptyAnswerAt operations) places → i < length places
     → place ≡ get_or places i place → IsEmptyAnswerAt operations place
 answer_is_empty operations places i place empty within is = subst (IsEmptyAnswerAt operations) (sym is)
     (All-get_or (IsEmptyAnswerAt operations) places i place within empty)
@@ -102,7 +108,8 @@ free_is_not_covered c o gap is covered = let life = covered gap is.in_window in 
 
 -- if no gap is found, the window is covered
 pub covered_if_none : (c : Course) (o : Operation) (found : Option ℕ)
-    → MatchOption found (IsCovered c o) (λ gap. IsLeastFreeGap c o (time_of gap)) → is_none found ≡ true → IsCovered c o
+    → MatchOption found (IsCovered c o) (λ gap. IsLeastFreeGap c o (time_of gap)) → is_none found ≡ true
+    → IsCovered c o
 covered_if_none c o None covered none = covered
 covered_if_none c o (Some gap) is none = cc
 
@@ -122,14 +129,16 @@ module _ (h : Course) where
   HasGap place c = (o : Operation) × IsAt h.operations place o × IsLeastFreeGap h o (time_of c)
 
   -- if each window has a gap, none is covered
-  gaps_come_later : (answer : EmptyAnswer) (places gaps : List ℕ) → AreGapsAt h places gaps → All (ReturnsLater answer) places
+  gaps_come_later : (answer : EmptyAnswer) (places gaps : List ℕ) → AreGapsAt h places gaps
+      → All (ReturnsLater answer) places
   gaps_come_later answer places gaps zip i d within o at covered =
       let has = AllZip-get_or HasGap places gaps i d 0 zip within in
       absurd (free_is_not_covered h o (time_of (get_or gaps i 0))
       (subst (λ x. IsLeastFreeGap h x (time_of (get_or gaps i 0))) (one_at h.operations (get_or places i d) has.0 o has.1 at) has.2) covered)
 
   -- the first of some places is the first of others, if none of these is covered and returned sooner
-  first_of : (seen places : List ℕ) (answer : EmptyAnswer) → IsFirstCovered h seen answer → All (ReturnsLater answer) places
+  first_of : (seen places : List ℕ) (answer : EmptyAnswer) → IsFirstCovered h seen answer
+      → All (ReturnsLater answer) places
       → IsFirstCovered h places answer
   first_of seen places answer is first = record { at = is.at; is_empty = is.is_empty; is_covered = is.is_covered; first = first }
 
@@ -158,7 +167,8 @@ module _ (h : Course) where
       first_of high (low ++ high) b is (All-append (ReturnsLater b) low high (gaps_come_later b low gaps zip) is.first)
 
   -- a single covered empty dequeue is the first
-  pub first_of_one : (place : ℕ) (x : EmptyAnswer) → x.place ≡ place → IsAt h.operations place x.operation → Did h.operations x.operation DequeueEmpty
+  pub first_of_one : (place : ℕ) (x : EmptyAnswer) → x.place ≡ place → IsAt h.operations place x.operation
+      → Did h.operations x.operation DequeueEmpty
       → IsCovered h x.operation → IsFirstCovered h (place ∷ []) x
   first_of_one place x same at is_empty covered = record {
     at = subst (λ p. IsAt h.operations p x.operation) (sym same) at;
@@ -169,7 +179,8 @@ module _ (h : Course) where
   }
 
   -- after windows with gaps comes a covered one, and then the first of the rest
-  pub from_the_first : (places gaps others : List ℕ) (i place : ℕ) (x r : EmptyAnswer) → i < length places → place ≡ get_or places i place
+  pub from_the_first : (places gaps others : List ℕ) (i place : ℕ) (x r : EmptyAnswer) → i < length places
+      → place ≡ get_or places i place
       → AreGapsAt h (take i places) gaps → IsFirstCovered h (place ∷ []) x → others ≡ drop (i + 1) places
       → ((seen : List ℕ) → IsFirstCovered h seen x → IsFirstCovered h (seen ++ others) r) → IsFirstCovered h places r
   from_the_first places gaps others i place x r within is zip covered rest goes_on =
@@ -178,28 +189,32 @@ module _ (h : Course) where
       subst (λ ps. IsFirstCovered h ps r) (take-append-drop (i + 1) places)
       (subst (λ ps. IsFirstCovered h (take (i + 1) places ++ ps) r) rest (goes_on (take (i + 1) places) seen))
 
-  one_further : (seen others : List ℕ) (i place : ℕ) (r : EmptyAnswer) → i < length others → place ≡ get_or others i place
+  one_further : (seen others : List ℕ) (i place : ℕ) (r : EmptyAnswer) → i < length others
+      → place ≡ get_or others i place
       → IsFirstCovered h ((seen ++ take i others) ++ place ∷ []) r → IsFirstCovered h (seen ++ take (i + 1) others) r
   one_further seen others i place r within is first =
       subst (λ ps. IsFirstCovered h (seen ++ ps) r) (sym (one_more others i place within is))
       (subst (λ ps. IsFirstCovered h ps r) (append_assoc seen (take i others) (place ∷ [])) first)
 
   -- one more window is covered
-  pub one_more_covered : (seen others : List ℕ) (i place : ℕ) (first x r : EmptyAnswer) → i < length others → place ≡ get_or others i place
+  pub one_more_covered : (seen others : List ℕ) (i place : ℕ) (first x r : EmptyAnswer) → i < length others
+      → place ≡ get_or others i place
       → IsFirstCovered h (seen ++ take i others) first → IsFirstCovered h (place ∷ []) x → IsSoonerOf first x r
       → IsFirstCovered h (seen ++ take (i + 1) others) r
   one_more_covered seen others i place first x r within is so_far covered sooner =
       one_further seen others i place r within is (sooner_is_first (seen ++ take i others) (place ∷ []) first x r so_far covered sooner)
 
   -- one more window has a gap
-  pub one_more_free : (seen others : List ℕ) (i place c : ℕ) (o : Operation) (first : EmptyAnswer) → i < length others → place ≡ get_or others i place
+  pub one_more_free : (seen others : List ℕ) (i place c : ℕ) (o : Operation) (first : EmptyAnswer) → i < length others
+      → place ≡ get_or others i place
       → IsFirstCovered h (seen ++ take i others) first → IsAt h.operations place o
       → IsLeastFreeGap h o (time_of c) → IsFirstCovered h (seen ++ take (i + 1) others) first
   one_more_free seen others i place c o first within is so_far at free =
       one_further seen others i place first within is (low_is_first (seen ++ take i others) (place ∷ []) (c ∷ []) first so_far ((o, at, free), tt))
 
   -- one more window's gap
-  pub one_more_gap : (places gaps : List ℕ) (i place c : ℕ) (o : Operation) → i < length places → place ≡ get_or places i place
+  pub one_more_gap : (places gaps : List ℕ) (i place c : ℕ) (o : Operation) → i < length places
+      → place ≡ get_or places i place
       → AreGapsAt h (take i places) gaps → IsAt h.operations place o → IsLeastFreeGap h o (time_of c)
       → AreGapsAt h (take (i + 1) places) (gaps ++ c ∷ [])
   one_more_gap places gaps i place c o within is zip at free =
@@ -219,7 +234,8 @@ module _ (h : Course) where
       → AreLeastFreeGaps h (map time_of gaps)
   gaps_are_all places gaps named zip = gaps_listed places (filter is_empty_answer h.operations) gaps named zip
     where
-      gaps_listed : (places : List ℕ) (listed : List Operation) (gaps : List ℕ) → ArePlacesOf h.operations places listed
+      gaps_listed : (places : List ℕ) (listed : List Operation) (gaps : List ℕ)
+          → ArePlacesOf h.operations places listed
           → AreGapsAt h places gaps → AllZip (λ o c. IsLeastFreeGap h o c) listed (map time_of gaps)
       gaps_listed [] [] [] named zip = tt
       gaps_listed [] [] (c ∷ gaps) named zip = absurd zip
@@ -232,7 +248,8 @@ module _ (h : Course) where
           (subst (λ x. IsLeastFreeGap h x (time_of c)) (one_at h.operations p zip.0.0 o zip.0.1 at) zip.0.2, gaps_listed places listed gaps rest zip.1)
 
   -- the first of all empty dequeues whose window is covered is the chosen one
-  pub first_is_chosen : (places : List ℕ) (first : EmptyAnswer) (cover : List Life) → HoldsPlaces h.operations is_empty_answer places
+  pub first_is_chosen : (places : List ℕ) (first : EmptyAnswer) (cover : List Life)
+      → HoldsPlaces h.operations is_empty_answer places
       → IsFirstCovered h places first → IsChosenCover h first.operation cover
       → IsChosenWitness h first.operation cover
   first_is_chosen places first cover named is chosen = record {

@@ -9,7 +9,8 @@ pub use Rattle.event_records.specs.declared.limits.TheConstants.{ORIGIN}
 pub use Rattle.history_merge.specs.Initial.{Contents, initial_enqueues, later_by}
 pub use Rattle.history_merge.specs.Inner.Timeline.{timeline}
 pub use Rattle.history_merge.specs.Operations.{Did, IsAt, IsInWindow, NoneDid, Precedes}
-pub use Rattle.history_merge.specs.declared.operation.OpKind.TheVariants.{Dequeue, DequeueEmpty, Enqueue, EnqueueFailed}
+pub use Rattle.history_merge.specs.declared.operation.OpKind.TheVariants.{Dequeue, DequeueEmpty, Enqueue}
+pub use Rattle.history_merge.specs.declared.operation.OpKind.TheVariants.{EnqueueFailed}
 pub use Rattle.history_merge.specs.declared.operation.Operation.{Operation}
 pub use Rattle.std.proofs.Common.{[], ap, ap₂, arith, drop, false, get_or, inl, inr, leb, length, length-append}
 pub use Rattle.std.proofs.Common.{length-take-le, List, ltb, map, max, None, Option, refl, rules, set, Some, subst}

@@ -3,7 +3,8 @@ use Rattle.empty_witness.proofs.Common.{[], All, All-append, All-contains, All-w
 use Rattle.empty_witness.proofs.Common.{call_or_never, cases_lt, cases_order, clear_on, Contains}
 use Rattle.empty_witness.proofs.Common.{Contains-append_cases, Contains-append_right, contains_cons, Course, course}
 use Rattle.empty_witness.proofs.Common.{Covers, CoversFrom, Dequeue, dequeue_call, dequeue_of, dequeued_if_called, Did}
-use Rattle.empty_witness.proofs.Common.{drop, DequeueEmpty, Enqueue, enqueue_of, enqueue_return, EntersBefore, FindsLongest}
+use Rattle.empty_witness.proofs.Common.{drop, DequeueEmpty, Enqueue, enqueue_of, enqueue_return, EntersBefore}
+use Rattle.empty_witness.proofs.Common.{FindsLongest}
 use Rattle.empty_witness.proofs.Common.{HoldsValues, initial_enqueues, inl, inr, IsChosenCover, IsChosenCoverFrom}
 use Rattle.empty_witness.proofs.Common.{IsClear, IsCovered, IsLife, IsLongestOf, IsNextOfCover, IsSome}
 use Rattle.empty_witness.proofs.Common.{IsWitnessViolation, le-ltb, length, Life, life_is_contained, life_of_contained}
@@ -38,8 +39,10 @@ longest_of : (lives : List Life) (frontier : ℕ) → ((life : Life) × IsLonges
 longest_of [] frontier = inr (λ other among. absurd (not_in_none other among))
 longest_of (x ∷ lives) frontier = join (longest_of lives frontier) (cases_lt (enqueue_return x) frontier)
   where
-    longer : (w : Life) → Contains (x ∷ lives) w → enqueue_return w < frontier → (enqueue_return x < frontier → StaysAtLeast w x)
-        → ((other : Life) → Contains lives other → enqueue_return other < frontier → StaysAtLeast w other) → IsLongestBefore (x ∷ lives) frontier w
+    longer : (w : Life) → Contains (x ∷ lives) w → enqueue_return w < frontier
+        → (enqueue_return x < frontier → StaysAtLeast w x)
+        → ((other : Life) → Contains lives other → enqueue_return other < frontier → StaysAtLeast w other)
+        → IsLongestBefore (x ∷ lives) frontier w
     longer w among before first later = record {
       among = among;
       before_frontier = before;
@@ -49,9 +52,11 @@ longest_of (x ∷ lives) frontier = join (longest_of lives frontier) (cases_lt (
       ];
     }
 
-    join : ((life : Life) × IsLongestBefore lives frontier life) ⊎ ((other : Life) → Contains lives other → frontier ≤ enqueue_return other)
+    join : ((life : Life) × IsLongestBefore lives frontier life)
+        ⊎ ((other : Life) → Contains lives other → frontier ≤ enqueue_return other)
         → (enqueue_return x < frontier) ⊎ (frontier ≤ enqueue_return x)
-        → ((life : Life) × IsLongestBefore (x ∷ lives) frontier life) ⊎ ((other : Life) → Contains (x ∷ lives) other → frontier ≤ enqueue_return other)
+        → ((life : Life) × IsLongestBefore (x ∷ lives) frontier life)
+        ⊎ ((other : Life) → Contains (x ∷ lives) other → frontier ≤ enqueue_return other)
     join (inl (w, is)) (inl before) = elim (stays_at_least_one w x) [
       | inl more ↦ inl (w, longer w (one_deeper x lives w is.among) is.before_frontier (λ _. more) is.longest)
       | inr less ↦ inl (
@@ -73,7 +78,8 @@ longest_of (x ∷ lives) frontier = join (longest_of lives frontier) (cases_lt (
     ])
 
 -- if some value was enqueued before the frontier, one of them is next in the cover
-next_of_cover : (operations : List Operation) (frontier : ℕ) (some : Life) → IsClear (on operations) → IsLife (on operations) some
+next_of_cover : (operations : List Operation) (frontier : ℕ) (some : Life) → IsClear (on operations)
+    → IsLife (on operations) some
     → enqueue_return some < frontier → (life : Life) × IsNextOfCover (on operations) frontier life
 next_of_cover operations frontier some clear is before = elim (longest_of (lives_of operations) frontier) [
   | inl found ↦ (
@@ -109,15 +115,18 @@ chosen_covers h empty frontier (life ∷ rest) in_range chosen = elim (cases_lt 
 ]
 
 -- a chosen cover is a witness violation
-pub chosen_cover_violates : (operations : List Operation) (empty : Operation) (cover : List Life) → IsClear (on operations) → Did operations empty DequeueEmpty
+pub chosen_cover_violates : (operations : List Operation) (empty : Operation) (cover : List Life)
+    → IsClear (on operations) → Did operations empty DequeueEmpty
     → IsChosenCover (on operations) empty cover → IsWitnessViolation (on operations) empty cover
 chosen_cover_violates operations empty cover clear did chosen =
     let range = return_in_range operations empty clear.complete did.0 in
     record { answers_empty = did; covers = chosen_covers (on operations) empty empty.call cover (omega arith) chosen }
 
 -- the chosen cover from an operation on, at most `left` tickets before the empty dequeue returns
-cover_from : (left : ℕ) (operations : List Operation) (empty before : Operation) → IsClear (on operations) → Did operations empty DequeueEmpty
-    → IsCovered (on operations) empty → Contains operations before → ((v : ℕ) → before.kind ≢ Enqueue v) → empty.call ≤ before.call → before.call < empty.ret
+cover_from : (left : ℕ) (operations : List Operation) (empty before : Operation) → IsClear (on operations)
+    → Did operations empty DequeueEmpty
+    → IsCovered (on operations) empty → Contains operations before → ((v : ℕ) → before.kind ≢ Enqueue v)
+    → empty.call ≤ before.call → before.call < empty.ret
     → empty.ret ≤ before.call + left → (cover : List Life) × IsChosenCoverFrom (on operations) empty before.call cover
 cover_from zero operations empty before clear did covered among other above below left = absurd (omega arith)
 cover_from (suc left) operations empty before clear did covered among other above below near =
@@ -140,7 +149,8 @@ cover_from (suc left) operations empty before clear did covered among other abov
     ]
 
 -- a covered empty dequeue has a chosen cover, which is a violation
-pub chosen_cover : (operations : List Operation) (empty : Operation) → IsClear (on operations) → Did operations empty DequeueEmpty → IsCovered (on operations) empty
+pub chosen_cover : (operations : List Operation) (empty : Operation) → IsClear (on operations)
+    → Did operations empty DequeueEmpty → IsCovered (on operations) empty
     → (cover : List Life) × IsChosenCover (on operations) empty cover × IsWitnessViolation (on operations) empty cover
 chosen_cover operations empty clear did covered =
     let other = no_enqueue empty DequeueEmpty did.1 refl in
@@ -149,7 +159,8 @@ chosen_cover operations empty clear did covered =
     (cover.0, cover.1, chosen_cover_violates operations empty cover.0 clear did cover.1)
 
 -- at each gap from the frontier to the empty dequeue's return, some value of the cover is definitely in the queue
-covered_by : (h : Course) (empty : Operation) (frontier : ℕ) (cover : List Life) (c : ℕ) → CoversFrom h empty frontier cover
+covered_by : (h : Course) (empty : Operation) (frontier : ℕ) (cover : List Life) (c : ℕ)
+    → CoversFrom h empty frontier cover
     → frontier ≤ c → c < empty.ret → (life : Life) × IsLife h life × Covers life c
 covered_by h empty frontier [] c covers above below = absurd covers
 covered_by h empty frontier (life ∷ []) c covers above below = (life, covers.0, (omega (arith, covers.1), omega (arith, covers.2)))
@@ -166,7 +177,8 @@ violation_covers h empty cover violation c window =
 
 -- a cover that begins no later than the chosen one has no fewer values
 no_shorter : (h : Course) (empty : Operation) (from frontier : ℕ) (cover other : List Life)
-    → IsChosenCoverFrom h empty frontier cover → CoversFrom h empty from other → from ≤ frontier → length cover ≤ length other
+    → IsChosenCoverFrom h empty frontier cover → CoversFrom h empty from other → from ≤ frontier
+    → length cover ≤ length other
 no_shorter h empty from frontier [] other chosen covers le = absurd chosen
 no_shorter h empty from frontier (x ∷ xs) [] chosen covers le = absurd covers
 no_shorter h empty from frontier (x ∷ xs) (y ∷ []) chosen covers le =
@@ -197,7 +209,8 @@ chosen_cover_is_shortest h empty cover other chosen violation =
 -- ---- the walk along the chosen cover, from the call of an empty dequeue to its return
 
 -- the steps taken so far name values of the chosen cover, which goes on from the frontier
-pub record IsCoverSoFar (initial : List ℕ) (operations : List Operation) (o : Operation) (steps : List CoverStep) (frontier : ℕ) : Type 0 where
+pub record IsCoverSoFar (initial : List ℕ) (operations : List Operation) (o : Operation) (steps : List CoverStep)
+    (frontier : ℕ) : Type 0 where
   pub lives : List Life
   pub named : NamesCover initial operations steps lives
   pub past_call : o.call ≤ frontier
@@ -237,8 +250,10 @@ module _ (initial : List ℕ) (operations : List Operation) (values : List Match
   }
 
   -- a value that covers the gap at the frontier was enqueued before it
-  entered_before : (steps : List CoverStep) (frontier : ℕ) → IsCoverSoFar initial operations o steps frontier → frontier < o.ret
-      → (value : MatchedValue) × Contains values value × EntersBefore frontier value.life × (frontier < dequeue_call value.life)
+  entered_before : (steps : List CoverStep) (frontier : ℕ) → IsCoverSoFar initial operations o steps frontier
+      → frontier < o.ret
+      → (value : MatchedValue) × Contains values value × EntersBefore frontier value.life
+      × (frontier < dequeue_call value.life)
   entered_before steps frontier so_far below =
       let life = covered frontier (so_far.past_call, below) in
       let value = life_value initial operations clear values holds life.0 life.1 in
@@ -247,7 +262,8 @@ module _ (initial : List ℕ) (operations : List Operation) (values : List Match
       (value.0, value.1, subst (EntersBefore frontier) (sym value.2) entered, subst (λ l. frontier < dequeue_call l) (sym value.2) life.2.1)
 
   -- so a next value is found
-  pub next_is_found : (steps : List CoverStep) (frontier : ℕ) (found : Option MatchedValue) → IsCoverSoFar initial operations o steps frontier
+  pub next_is_found : (steps : List CoverStep) (frontier : ℕ) (found : Option MatchedValue)
+      → IsCoverSoFar initial operations o steps frontier
       → frontier < o.ret → FindsLongest (EntersBefore frontier) values found → IsSome found
   next_is_found steps frontier None so_far below none =
       let value = entered_before steps frontier so_far below in
@@ -256,14 +272,16 @@ module _ (initial : List ℕ) (operations : List Operation) (values : List Match
 
   -- the longest of the values that aren't gone by the call is the longest of all
   pub longest_of_all : (n : ℕ) (steps : List CoverStep) (frontier : ℕ) (found : Option MatchedValue)
-      → All (λ value. dequeue_call value.life ≤ o.call) (take n values) → IsCoverSoFar initial operations o steps frontier → frontier < o.ret
+      → All (λ value. dequeue_call value.life ≤ o.call) (take n values)
+      → IsCoverSoFar initial operations o steps frontier → frontier < o.ret
       → FindsLongest (EntersBefore frontier) (drop n values) found → FindsLongest (EntersBefore frontier) values found
   longest_of_all n steps frontier found gone so_far below finds = go found finds
     where
       whole : take n values ++ (drop n values) ≡ values
       whole = take-append-drop n values
 
-      z : (value : MatchedValue) × Contains values value × EntersBefore frontier value.life × (frontier < dequeue_call value.life)
+      z : (value : MatchedValue) × Contains values value × EntersBefore frontier value.life
+          × (frontier < dequeue_call value.life)
       z = entered_before steps frontier so_far below
 
       left : Contains (drop n values) z.0
@@ -274,7 +292,8 @@ module _ (initial : List ℕ) (operations : List Operation) (values : List Match
         | inr late ↦ late
       ]
 
-      go : (found : Option MatchedValue) → FindsLongest (EntersBefore frontier) (drop n values) found → FindsLongest (EntersBefore frontier) values found
+      go : (found : Option MatchedValue) → FindsLongest (EntersBefore frontier) (drop n values) found
+          → FindsLongest (EntersBefore frontier) values found
       go None none = absurd (All-contains (λ value. ¬ (EntersBefore frontier value.life)) (drop n values) z.0 none left z.2)
       go (Some w) is = record {
         among = subst (λ xs. Contains xs w) whole (Contains-append_right (take n values) (drop n values) w is.among);
@@ -293,7 +312,8 @@ module _ (initial : List ℕ) (operations : List Operation) (values : List Match
               (λ value leaves entered. (omega (arith, leaves, past, so_far.past_call), λ same. absurd (omega (arith, leaves, past, so_far.past_call, same))))
               (take n values) gone
 
-  is_next : (frontier : ℕ) (value : MatchedValue) → IsLongestOf (EntersBefore frontier) values value → IsNextOfCover (course initial operations) frontier value.life
+  is_next : (frontier : ℕ) (value : MatchedValue) → IsLongestOf (EntersBefore frontier) values value
+      → IsNextOfCover (course initial operations) frontier value.life
   is_next frontier value is = record {
     is_life = value_lives initial operations clear values holds value is.among;
     before_frontier = is.passes;
@@ -305,7 +325,8 @@ module _ (initial : List ℕ) (operations : List Operation) (values : List Match
   }
 
   -- the next value stays past the frontier
-  pub frontier_rises : (steps : List CoverStep) (frontier : ℕ) (value : MatchedValue) → IsCoverSoFar initial operations o steps frontier → frontier < o.ret
+  pub frontier_rises : (steps : List CoverStep) (frontier : ℕ) (value : MatchedValue)
+      → IsCoverSoFar initial operations o steps frontier → frontier < o.ret
       → IsLongestOf (EntersBefore frontier) values value → frontier < dequeue_call value.life
   frontier_rises steps frontier value so_far below is =
       let other = entered_before steps frontier so_far below in
@@ -313,7 +334,8 @@ module _ (initial : List ℕ) (operations : List Operation) (values : List Match
       omega (arith, stays.0, other.3)
 
   -- one more step, with the next value
-  pub one_more_step : (steps : List CoverStep) (frontier : ℕ) (value : MatchedValue) → IsCoverSoFar initial operations o steps frontier → frontier < o.ret
+  pub one_more_step : (steps : List CoverStep) (frontier : ℕ) (value : MatchedValue)
+      → IsCoverSoFar initial operations o steps frontier → frontier < o.ret
       → IsLongestOf (EntersBefore frontier) values value
       → IsCoverSoFar initial operations o
       (steps ++ (record { source = value.source; dequeue = value.dequeue }) ∷ []) (dequeue_call value.life)
@@ -337,7 +359,8 @@ module _ (initial : List ℕ) (operations : List Operation) (values : List Match
       next = is_next frontier value is
 
   -- past the return the cover is complete
-  pub cover_is_whole : (steps : List CoverStep) (frontier : ℕ) → IsCoverSoFar initial operations o steps frontier → o.ret ≤ frontier
+  pub cover_is_whole : (steps : List CoverStep) (frontier : ℕ) → IsCoverSoFar initial operations o steps frontier
+      → o.ret ≤ frontier
       → NamesChosenCover initial operations o steps
   cover_is_whole steps frontier so_far past =
       let differs = so_far.no_return o empty_there.0 in
@@ -351,6 +374,7 @@ module _ (initial : List ℕ) (operations : List Operation) (values : List Match
 
 -- the value that was found is the longest of those enqueued before the frontier
 pub found_longest : (values : List MatchedValue) (frontier : ℕ) (found : Option MatchedValue) (value : MatchedValue)
-    → FindsLongest (EntersBefore frontier) values found → found ≡ Some value → IsLongestOf (EntersBefore frontier) values value
+    → FindsLongest (EntersBefore frontier) values found → found ≡ Some value
+    → IsLongestOf (EntersBefore frontier) values value
 found_longest values frontier None value finds same = cc
 found_longest values frontier (Some other) value finds same = let one : other ≡ value = cc in subst (IsLongestOf (EntersBefore frontier) values) one finds

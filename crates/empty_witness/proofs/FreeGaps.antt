@@ -1,6 +1,7 @@
 -- The window of an operation has a least free gap, or is covered.
 use Rattle.empty_witness.proofs.Common.{[], ap, AreApart, AreSpansOf, arith, call_before_return, cases_lt, cases_order}
-use Rattle.empty_witness.proofs.Common.{Contains, Contains-get_or, contains_cons, Course, Covers, Enqueue, false, get_or}
+use Rattle.empty_witness.proofs.Common.{Contains, Contains-get_or, contains_cons, Course, Covers, Enqueue, false}
+use Rattle.empty_witness.proofs.Common.{get_or}
 use Rattle.empty_witness.proofs.Common.{get_or_default, Holds, inl, inr, IsClear, IsCovered, IsFirstOutside, IsFreeGap}
 use Rattle.empty_witness.proofs.Common.{IsLeastFreeGap, IsLife, le-ltb, leb, leb-false, leb-true, length, Life}
 use Rattle.empty_witness.proofs.Common.{life_is_contained, life_of_contained, List, lives_of, lt-ltb, ltb, MatchOption}
@@ -38,7 +39,8 @@ module _ (spans : List Span) (from begun : ℕ) (point : IsPartitionPoint (λ sp
   }
 
   -- some span has begun, the last of them just before
-  pub after_last_begun : (d : Span) (c : ℕ) → AreApart spans → begun ≢ 0 → begun ≤ length spans → c ≡ max (get_or spans (begun - 1) d).end from
+  pub after_last_begun : (d : Span) (c : ℕ) → AreApart spans → begun ≢ 0 → begun ≤ length spans
+      → c ≡ max (get_or spans (begun - 1) d).end from
       → IsFirstOutside spans from c
   after_last_begun d c are some inside is = record {
     no_less = omega arith;
@@ -93,7 +95,8 @@ module _ (c : Course) (spans : List Span) (o : Operation) (gap : ℕ) (are : Are
 -- ---- the window of an operation has a least free gap, or is covered
 
 -- some value of the list covers the gap, or none does
-covering : (lives : List Life) (c : ℕ) → ((life : Life) × Contains lives life × Covers life c) ⊎ ((life : Life) → Contains lives life → ¬ (Covers life c))
+covering : (lives : List Life) (c : ℕ)
+    → ((life : Life) × Contains lives life × Covers life c) ⊎ ((life : Life) → Contains lives life → ¬ (Covers life c))
 covering [] c = inr (λ life among. absurd (not_in_none life among))
 covering (x ∷ lives) c =
     let decided : Covers x c ⊎ ¬ (Covers x c) = grind arith in
@@ -110,7 +113,8 @@ covering (x ∷ lives) c =
 
 -- from a gap on, below which the window is covered: the least free gap, or the whole window is covered
 free_from : (left c : ℕ) (operations : List Operation) (o : Operation) → IsClear (on operations)
-    → ((b : ℕ) → o.call ≤ b → b < c → (life : Life) × IsLife (on operations) life × Covers life b) → o.call ≤ c → c + left ≡ o.ret
+    → ((b : ℕ) → o.call ≤ b → b < c → (life : Life) × IsLife (on operations) life × Covers life b) → o.call ≤ c
+    → c + left ≡ o.ret
     → ((g : ℕ) × IsLeastFreeGap (on operations) o g) ⊎ IsCovered (on operations) o
 free_from zero c operations o clear below above long = inr (λ b window. below b window.0 (omega (arith, window.1)))
 free_from (suc left) c operations o clear below above long =
@@ -141,7 +145,8 @@ free_from (suc left) c operations o clear below above long =
     ]
 
 -- the window of an operation has a least free gap, or is covered
-pub free_gap_or_covered : (operations : List Operation) (o : Operation) → IsClear (on operations) → Contains operations o → ((v : ℕ) → o.kind ≢ Enqueue v)
+pub free_gap_or_covered : (operations : List Operation) (o : Operation) → IsClear (on operations)
+    → Contains operations o → ((v : ℕ) → o.kind ≢ Enqueue v)
     → ((g : ℕ) × IsLeastFreeGap (on operations) o g) ⊎ IsCovered (on operations) o
 free_gap_or_covered operations o clear among other =
     let less = call_before_return operations o clear.complete among other in

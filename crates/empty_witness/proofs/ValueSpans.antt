@@ -46,7 +46,8 @@ module _ (xs : List Span) (x : Span) (are : AreApart (xs ++ x ∷ [])) where
       let second = ap (λ (s : Span). s.start) (get_or_push xs x d (length xs) refl) in
       omega (arith, pair, first, second)
 
-spans_push : (spans : List Span) (last : Span) → AreApart spans → All (λ span. span.end < last.start) spans → last.start < last.end
+spans_push : (spans : List Span) (last : Span) → AreApart spans → All (λ span. span.end < last.start) spans
+    → last.start < last.end
     → AreApart (spans ++ last ∷ [])
 spans_push spans last are below some = record {
   hold_some = All-push (λ span. span.start < span.end) spans last are.hold_some some;
@@ -54,7 +55,8 @@ spans_push spans last are below some = record {
 }
 
 -- a span after all others
-pub with_last : (spans : List Span) (span : Span) → AreApart spans → All (λ s. s.end < span.start) spans → span.start < span.end
+pub with_last : (spans : List Span) (span : Span) → AreApart spans → All (λ s. s.end < span.start) spans
+    → span.start < span.end
     → IsWithSpan spans span (spans ++ span ∷ [])
 with_last spans span are below some = record {
   apart = spans_push spans span are below some;
@@ -62,7 +64,8 @@ with_last spans span are below some = record {
   ends = λ b before ends. All-push (λ s. s.end < b) spans span before ends;
 }
 
-module _ (spans : List Span) (last span : Span) (are : AreApart (spans ++ last ∷ [])) (some : span.start < span.end) where
+module _ (spans : List Span) (last span : Span)
+    (are : AreApart (spans ++ last ∷ [])) (some : span.start < span.end) where
   -- a span that begins after the end of the last
   pub after_last : last.end < span.start → IsWithSpan (spans ++ last ∷ []) span ((spans ++ last ∷ []) ++ span ∷ [])
   after_last after = with_last (spans ++ last ∷ []) span are (All-push (λ s. s.end < span.start) spans last
@@ -70,7 +73,8 @@ module _ (spans : List Span) (last span : Span) (are : AreApart (spans ++ last �
       (end_before spans last are)) after) some
 
   -- a span that ends before the start of the last is put among those before it
-  pub before_last : (new : List Span) → span.end < last.start → IsWithSpan spans span new → IsWithSpan (spans ++ last ∷ []) span (new ++ last ∷ [])
+  pub before_last : (new : List Span) → span.end < last.start → IsWithSpan spans span new
+      → IsWithSpan (spans ++ last ∷ []) span (new ++ last ∷ [])
   before_last new before with_span = record {
     apart = spans_push new last with_span.apart (with_span.ends last.start (end_before spans last are) before) (some_hold spans last are).1;
     same = λ c. (
@@ -92,7 +96,8 @@ module _ (spans : List Span) (last span : Span) (are : AreApart (spans ++ last �
   }
 
   -- a span that touches or overlaps the last is joined with it
-  module _ (joined : Span) (of_both : IsOfBoth last span joined) (begins : span.start ≤ last.end) (ends : last.start ≤ span.end) where
+  module _ (joined : Span) (of_both : IsOfBoth last span joined)
+      (begins : span.start ≤ last.end) (ends : last.start ≤ span.end) where
     -- the joined span holds some gap
     pub joined_holds : joined.start < joined.end
     joined_holds = omega (arith, of_both.starts, of_both.ends, some)
@@ -214,7 +219,8 @@ module _ (values : List MatchedValue) (n : ℕ) (spans : List Span) (m : Matched
   }
 
 -- the spans of all values are those of the history
-pub are_spans : (history : Contents) (values : List MatchedValue) (n : ℕ) (spans : List Span) → IsClear (course_of history) → HoldsValues history values
+pub are_spans : (history : Contents) (values : List MatchedValue) (n : ℕ) (spans : List Span)
+    → IsClear (course_of history) → HoldsValues history values
     → length values ≤ n → AreSpansSoFar values n spans → AreSpansOf (course_of history) spans
 are_spans history values n spans clear holds all are = record {
   apart = are.apart;

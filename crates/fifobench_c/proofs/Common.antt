@@ -1,5 +1,6 @@
 -- Names that most proofs of this crate cite, exported from one place. Declares nothing.
-pub use Rattle.std.proofs.Common.{[], ◌++◌, ◌+◌, ◌<◌, ◌∙◌, ◌∷◌, ◌≡◌, ◌⊎◌, add-one, ap, arith, drop, false, get_or, inl, inr}
+pub use Rattle.std.proofs.Common.{[], ◌++◌, ◌+◌, ◌<◌, ◌∙◌, ◌∷◌, ◌≡◌, ◌⊎◌, add-one, ap, arith, drop, false, get_or, inl}
+pub use Rattle.std.proofs.Common.{inr}
 pub use Rattle.std.proofs.Common.{length, length-take-le, List, map, None, Option, refl, slice_get, Some, subst, suc}
 pub use Rattle.std.proofs.Common.{sym, take, take-suc, zero, ℕ}
 pub use Rattle.event_records.specs.declared.event.Event.{Event}

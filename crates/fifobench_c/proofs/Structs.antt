@@ -8,13 +8,16 @@ use Rattle.fifobench_c.specs.declared.recorded.RecordedEvent.{RecordedEvent}
 use Rattle.std.proofs.lemmas.Option.{slice_get_within}
 
 -- there are as many events as structs
-pub as_many : (structs : List RecordedEvent) (events : List Event) → AreEvents structs events → length events ≡ length structs
+pub as_many : (structs : List RecordedEvent) (events : List Event) → AreEvents structs events
+    → length events ≡ length structs
 as_many structs events are =
     sym (length-map events (λ (e : Event). Some e)) ∙ ap (λ (l : List (Option Event)). length l) (sym are) ∙ length-map structs event_of
 
 -- one more struct that is an event
-pub one_more : (structs : List RecordedEvent) (i : ℕ) (here : RecordedEvent) (event : Event) (events : List Event) → i < length structs
-    → here ≡ get_or structs i here → event_of here ≡ Some event → AreEvents (take i structs) events → AreEvents (take (i + 1) structs) (events ++ event ∷ [])
+pub one_more : (structs : List RecordedEvent) (i : ℕ) (here : RecordedEvent) (event : Event) (events : List Event)
+    → i < length structs
+    → here ≡ get_or structs i here → event_of here ≡ Some event → AreEvents (take i structs) events
+    → AreEvents (take (i + 1) structs) (events ++ event ∷ [])
 one_more structs i here event events inside is known are =
     ap (λ n. map event_of (take n structs)) (add-one i)
     ∙ ap (map event_of) (take-suc structs i here inside ∙ ap (λ z. take i structs ++ z ∷ []) (sym is))
@@ -34,13 +37,15 @@ unknown_is_behind (s ∷ ss) (suc n) (e ∷ es) (suc place) here are before at u
     unknown_is_behind ss n es place here (ap (drop 1) are) (omega (arith, before)) at unknown
 
 -- structs that are events have no unknown kind
-pub none_unknown : (structs : List RecordedEvent) (events : List Event) → AreEvents structs events → (place : ℕ) → IsFirstUnknown structs place → ⊥
+pub none_unknown : (structs : List RecordedEvent) (events : List Event) → AreEvents structs events → (place : ℕ)
+    → IsFirstUnknown structs place → ⊥
 none_unknown structs events are place first =
     let all = subst (λ l. AreEvents l events) (sym (take-length structs)) are in
     unknown_is_behind structs (length structs) events place first.here all (slice_get_within structs place first.here first.at) first.at first.unknown
 
 -- structs are only one list of events
-pub one_list : (structs : List RecordedEvent) (xs ys : List Event) → AreEvents structs xs → AreEvents structs ys → xs ≡ ys
+pub one_list : (structs : List RecordedEvent) (xs ys : List Event) → AreEvents structs xs → AreEvents structs ys
+    → xs ≡ ys
 one_list structs xs ys are_x are_y = same_events xs ys (sym are_x ∙ are_y)
   where
     same_events : (xs ys : List Event) → map (λ (e : Event). Some e) xs ≡ map (λ (e : Event). Some e) ys → xs ≡ ys

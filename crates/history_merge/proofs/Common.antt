@@ -62,7 +62,8 @@ pub use Rattle.history_merge.specs.Gathering.{IsForming, Knows, name_in}
 pub use Rattle.history_merge.specs.Initial.{Contents, enqueue_at, enqueues_from, initial_enqueues}
 pub use Rattle.history_merge.specs.Initial.{IsCompleteFrom, later_by}
 pub use Rattle.history_merge.specs.Inner.Clashes.{IsSought}
-pub use Rattle.history_merge.specs.Inner.Forming.{AreCalledIn, FitsTurn, is_called_in, IsFormedOf, IsLeastPendingCall, NothingPending}
+pub use Rattle.history_merge.specs.Inner.Forming.{AreCalledIn, FitsTurn, is_called_in, IsFormedOf, IsLeastPendingCall}
+pub use Rattle.history_merge.specs.Inner.Forming.{NothingPending}
 pub use Rattle.history_merge.specs.Inner.History.{AreInTurn, AreLeft, comes_by_ticket, due_in, FollowsInTurn}
 pub use Rattle.history_merge.specs.Inner.History.{IsFirstDue, IsKept, IsRunOf, next_of}
 pub use Rattle.history_merge.specs.Inner.Timeline.{earlier_by, IsTimeline, operations_on, timeline}
@@ -82,5 +83,6 @@ pub use Rattle.history_merge.specs.declared.fault.HistoryFault.TheVariants.{Wron
 pub use Rattle.history_merge.specs.declared.forming.Forming.{Forming}
 pub use Rattle.history_merge.specs.declared.gathering.Gathering.{Gathering}
 pub use Rattle.history_merge.specs.declared.operation.OpKind.{OpKind}
-pub use Rattle.history_merge.specs.declared.operation.OpKind.TheVariants.{Dequeue, DequeueEmpty, Enqueue, EnqueueFailed}
+pub use Rattle.history_merge.specs.declared.operation.OpKind.TheVariants.{Dequeue, DequeueEmpty, Enqueue}
+pub use Rattle.history_merge.specs.declared.operation.OpKind.TheVariants.{EnqueueFailed}
 pub use Rattle.history_merge.specs.declared.operation.Operation.{Operation}

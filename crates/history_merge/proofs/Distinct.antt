@@ -11,7 +11,8 @@ use Rattle.history_merge.proofs.Common.{get_or_from_slice_get, gets, HasRefusedI
 use Rattle.history_merge.proofs.Common.{is_call, is_initial, is_sum_by, IsCompleteFrom, IsCompleteHistory}
 use Rattle.history_merge.proofs.Common.{IsFirstTwice, IsPermutation, IsPermutation-map, IsTimed, kind_of, length}
 use Rattle.history_merge.proofs.Common.{length-take, list_any, list_any-append, list_any_at, lt-ltb, map, MAX_TICKET}
-use Rattle.history_merge.proofs.Common.{MAX_TIME, nat_eq, nat_tests, None, EnqueueFailed, Operation, operation_of, operations_of}
+use Rattle.history_merge.proofs.Common.{MAX_TIME, nat_eq, nat_tests, None, EnqueueFailed, Operation, operation_of}
+use Rattle.history_merge.proofs.Common.{operations_of}
 use Rattle.history_merge.proofs.Common.{OpKind, Option, option_and_then_some, option_map, option_map_or, or_comm}
 use Rattle.history_merge.proofs.Common.{position-Some, position_or_len, refl, repeats_value, same_Some}
 use Rattle.history_merge.proofs.Common.{slice_get, slice_get-get_or, slice_get-map, slice_get_read, slice_get_within}
@@ -41,7 +42,8 @@ abbrev pub dequeued : List OpKind → List ℕ
 dequeued kinds = filter_map taken_out kinds
 
 -- the values held and enqueued are those dequeued and left, in the same order
-pub enqueued_is_dequeued : (kinds : List OpKind) (queue left : List ℕ) → accept_all queue kinds ≡ Some left → queue ++ enqueued kinds ≡ dequeued kinds ++ left
+pub enqueued_is_dequeued : (kinds : List OpKind) (queue left : List ℕ) → accept_all queue kinds ≡ Some left
+    → queue ++ enqueued kinds ≡ dequeued kinds ++ left
 enqueued_is_dequeued [] queue left run = let same : queue ≡ left = cc in rw same (append-nil left)
 enqueued_is_dequeued (Enqueue v ∷ kinds) queue left run = sym (append_assoc queue (v ∷ []) (enqueued kinds)) ∙ enqueued_is_dequeued kinds (queue ++ v ∷ []) left run
 enqueued_is_dequeued (EnqueueFailed v ∷ kinds) queue left run = enqueued_is_dequeued kinds queue left run
@@ -56,12 +58,14 @@ pub record IsQueueBefore (start : List ℕ) (kinds : List OpKind) (i : ℕ) (kin
   pub reached : accept_all start (take i kinds) ≡ Some queue
   pub accepted : accept queue kind ≡ Some next
 
-accepted_first : (queue : List ℕ) (kind : OpKind) (kinds : List OpKind) (left : List ℕ) → accept_all queue (kind ∷ kinds) ≡ Some left
+accepted_first : (queue : List ℕ) (kind : OpKind) (kinds : List OpKind) (left : List ℕ)
+    → accept_all queue (kind ∷ kinds) ≡ Some left
     → (next : List ℕ) × (accept queue kind ≡ Some next) × (accept_all next kinds ≡ Some left)
 accepted_first queue kind kinds left run = grind (arith, option_and_then_some)
 
 -- the queue before an operation of an accepted run
-pub queue_before : (kinds : List OpKind) (start left : List ℕ) (i : ℕ) (kind : OpKind) → accept_all start kinds ≡ Some left
+pub queue_before : (kinds : List OpKind) (start left : List ℕ) (i : ℕ) (kind : OpKind)
+    → accept_all start kinds ≡ Some left
     → slice_get kinds i ≡ Some kind → IsQueueBefore start kinds i kind
 queue_before [] start left i kind run at = cc
 queue_before (k ∷ kinds) start left zero kind run at = grind (arith, accepted_first)
@@ -86,11 +90,13 @@ Member-right v (x ∷ xs) ys m = inr (Member-right v xs ys m)
 abbrev pub StandsBefore : List OpKind → ℕ → OpKind → Type 0
 StandsBefore kinds j kind = (i : ℕ) × (i < j) × (slice_get kinds i ≡ Some kind)
 
-one_later : (k : OpKind) (kinds : List OpKind) (j : ℕ) (kind : OpKind) → StandsBefore kinds j kind → StandsBefore (k ∷ kinds) (suc j) kind
+one_later : (k : OpKind) (kinds : List OpKind) (j : ℕ) (kind : OpKind) → StandsBefore kinds j kind
+    → StandsBefore (k ∷ kinds) (suc j) kind
 one_later k kinds j kind s = (suc s.0, omega (arith, s.1), s.2)
 
 module _ (gives : OpKind → Option ℕ) where
-  more_given : (k : OpKind) (kinds : List OpKind) (j v : ℕ) (o : Option ℕ) → gives k ≡ o → Member v (cons_option o (filter_map gives (take j kinds)))
+  more_given : (k : OpKind) (kinds : List OpKind) (j v : ℕ) (o : Option ℕ) → gives k ≡ o
+      → Member v (cons_option o (filter_map gives (take j kinds)))
       → (Member v (filter_map gives (take j kinds)) → (l : OpKind) × (gives l ≡ Some v) × StandsBefore kinds j l)
       → (l : OpKind) × (gives l ≡ Some v) × StandsBefore (k ∷ kinds) (suc j) l
   more_given k kinds j v None is m later = let l = later m in (l.0, l.1, one_later k kinds j l.0 l.2)
@@ -110,7 +116,8 @@ module _ (gives : OpKind → Option ℕ) where
   further (Some w) v all some is = (is.0, ap (λ us. w ∷ us) is.1)
 
   -- the values given before place j, split at an operation before it
-  split_at_giver : (kinds : List OpKind) (i j v : ℕ) (k : OpKind) → gives k ≡ Some v → i < j → slice_get kinds i ≡ Some k
+  split_at_giver : (kinds : List OpKind) (i j v : ℕ) (k : OpKind) → gives k ≡ Some v → i < j
+      → slice_get kinds i ≡ Some k
       → (rest : List ℕ) × (filter_map gives (take j kinds) ≡ filter_map gives (take i kinds) ++ v ∷ rest)
   split_at_giver kinds i zero v k gave below at = absurd (omega arith)
   split_at_giver [] i (suc j) v k gave below at = cc
@@ -129,11 +136,13 @@ taken_out_by : (k : OpKind) (v : ℕ) → taken_out k ≡ Some v → k ≡ Deque
 taken_out_by k v e = grind arith
 
 -- a value that was enqueued before place j has an enqueue there
-pub enqueue_of_member : (kinds : List OpKind) (j v : ℕ) → Member v (enqueued (take j kinds)) → StandsBefore kinds j (Enqueue v)
+pub enqueue_of_member : (kinds : List OpKind) (j v : ℕ) → Member v (enqueued (take j kinds))
+    → StandsBefore kinds j (Enqueue v)
 enqueue_of_member kinds j v m = grind (arith, giver_of_member, put_in_by)
 
 -- a value that was dequeued before place j has a dequeue there
-pub dequeue_of_member : (kinds : List OpKind) (j v : ℕ) → Member v (dequeued (take j kinds)) → StandsBefore kinds j (Dequeue v)
+pub dequeue_of_member : (kinds : List OpKind) (j v : ℕ) → Member v (dequeued (take j kinds))
+    → StandsBefore kinds j (Dequeue v)
 dequeue_of_member kinds j v m = grind (arith, giver_of_member, taken_out_by)
 
 -- the values enqueued before place j, split at an enqueue before it
@@ -179,13 +188,15 @@ count-le-calls [] (suc j) v = omega arith
 count-le-calls (k ∷ kinds) (suc j) v = grind (arith, count-le-calls kinds j v)
 
 -- an operation that calls for a value is counted
-pub one_call : (kinds : List OpKind) (i v : ℕ) (k : OpKind) → slice_get kinds i ≡ Some k → calls_of_kind v k ≡ 1 → 1 ≤ calls v kinds
+pub one_call : (kinds : List OpKind) (i v : ℕ) (k : OpKind) → slice_get kinds i ≡ Some k → calls_of_kind v k ≡ 1
+    → 1 ≤ calls v kinds
 one_call [] i v k at is = cc
 one_call (x ∷ kinds) zero v k at is = grind arith
 one_call (x ∷ kinds) (suc i) v k at is = omega (arith, one_call kinds i v k at is)
 
 -- the only call for a value has only one place
-pub same_place : (kinds : List OpKind) (i j v : ℕ) (k l : OpKind) → slice_get kinds i ≡ Some k → slice_get kinds j ≡ Some l → calls_of_kind v k ≡ 1
+pub same_place : (kinds : List OpKind) (i j v : ℕ) (k l : OpKind) → slice_get kinds i ≡ Some k
+    → slice_get kinds j ≡ Some l → calls_of_kind v k ≡ 1
     → calls_of_kind v l ≡ 1 → calls v kinds ≤ 1 → i ≡ j
 same_place [] i j v k l at_i at_j is_k is_l once = cc
 same_place (x ∷ kinds) zero zero v k l at_i at_j is_k is_l once = refl
@@ -203,7 +214,8 @@ same_front (u ∷ us) vs (x ∷ xs) ys b same once = grind (arith, same_front us
 -- ---- properties of the operations of a complete history
 
 -- the element that `find` gives has a place
-pub place_of_find : {X : Type 0} (p : X → Bool) (xs : List X) (r : X) → find p xs ≡ Some r → (k : ℕ) × (k < length xs) × ((d : X) → get_or xs k d ≡ r)
+pub place_of_find : {X : Type 0} (p : X → Bool) (xs : List X) (r : X) → find p xs ≡ Some r
+    → (k : ℕ) × (k < length xs) × ((d : X) → get_or xs k d ≡ r)
 place_of_find p xs r e =
     let at = sym (find_at p xs) ∙ e in
     (position_or_len p xs, slice_get_within xs _ r at, λ d. get_or_from_slice_get xs _ r d at)
@@ -222,13 +234,15 @@ made_of call None o e = cc
 made_of call (Some answer) o e = grind arith
 
 -- each operation is called before it returns
-pub calls_before_returns : (events : List Event) → TicketsRise events → All (λ o. o.call < o.ret) (operations_of events)
+pub calls_before_returns : (events : List Event) → TicketsRise events
+    → All (λ o. o.call < o.ret) (operations_of events)
 calls_before_returns [] rise = All-nil (λ o. o.call < o.ret)
 calls_before_returns (e ∷ later) rise =
     join (calls_before_returns later (λ i j d below within. rise (suc i) (suc j) d (omega arith) (omega arith)))
     (operation_of e (find (λ r. nat_eq r.thread e.thread) later)) refl
   where
-    join : All (λ o. o.call < o.ret) (operations_of later) → (o : Option Operation) → operation_of e (find (λ r. nat_eq r.thread e.thread) later) ≡ o
+    join : All (λ o. o.call < o.ret) (operations_of later) → (o : Option Operation)
+        → operation_of e (find (λ r. nat_eq r.thread e.thread) later) ≡ o
         → All (λ o. o.call < o.ret) (cons_option o (operations_of later))
     join rest None same = rest
     join rest (Some o) same =
@@ -240,7 +254,8 @@ calls_before_returns (e ∷ later) rise =
         All-cons (λ o. o.call < o.ret) o (operations_of later) ordered rest
 
 -- a value is called for no more often than it is among the values of the calls
-calls-operations_of : (v : ℕ) (events : List Event) → calls v (map (λ o. o.kind) (operations_of events)) ≤ count v (called_values events)
+calls-operations_of : (v : ℕ) (events : List Event)
+    → calls v (map (λ o. o.kind) (operations_of events)) ≤ count v (called_values events)
 calls-operations_of v [] = omega arith
 calls-operations_of v (e ∷ later) = grind (arith, calls-operations_of v later)
 
@@ -260,7 +275,8 @@ count_of_distinct v (x ∷ xs) distinct =
     ]
 
 -- each value is called for by at most one enqueue of a complete history
-pub called_once : (events : List Event) (v : ℕ) → IsCompleteHistory events → calls v (map (λ o. o.kind) (operations_of events)) ≤ 1
+pub called_once : (events : List Event) (v : ℕ) → IsCompleteHistory events
+    → calls v (map (λ o. o.kind) (operations_of events)) ≤ 1
 called_once events v complete = grind (arith, count_of_distinct, calls-operations_of)
 
 -- a call for a value is that of an enqueue, successful or failed
@@ -270,7 +286,8 @@ calls_or_not v (EnqueueFailed w) = elim (eqb_tells w v) [ inl h ↦ inl (rw h.0 
 calls_or_not v (Dequeue w) = inr refl
 calls_or_not v DequeueEmpty = inr refl
 
-none_called : (v : ℕ) (xs : List Operation) → All (λ o. ¬ (enqueued_value o.kind ≡ Some v)) xs → calls v (map (λ o. o.kind) xs) ≡ 0
+none_called : (v : ℕ) (xs : List Operation) → All (λ o. ¬ (enqueued_value o.kind ≡ Some v)) xs
+    → calls v (map (λ o. o.kind) xs) ≡ 0
 none_called v [] none = refl
 none_called v (x ∷ xs) none =
     let rest = none_called v xs (All-tail (λ o. ¬ (enqueued_value o.kind ≡ Some v)) x xs none) in
@@ -288,7 +305,8 @@ one_calls v (x ∷ xs) apart =
     ]
 
 -- a permutation of the operations calls for each value as often
-pub calls-IsPermutation : (v : ℕ) (xs ys : List Operation) → IsPermutation xs ys → calls v (map (λ o. o.kind) ys) ≡ calls v (map (λ o. o.kind) xs)
+pub calls-IsPermutation : (v : ℕ) (xs ys : List Operation) → IsPermutation xs ys
+    → calls v (map (λ o. o.kind) ys) ≡ calls v (map (λ o. o.kind) xs)
 calls-IsPermutation v xs ys moved =
     let as_sum : (kinds : List OpKind) → calls v kinds ≡ sum_by (calls_of_kind v) kinds = is_sum_by (calls v) (calls_of_kind v) refl (λ x xs. refl) in
     grind (arith, nat_tests, sum_by-IsPermutation, IsPermutation-map)
@@ -318,7 +336,8 @@ pub contains_at : {X : Type 0} (xs : List X) (i : ℕ) (x : X) → slice_get xs 
 contains_at xs i x at = (i, slice_get_within xs i x at, get_or_from_slice_get xs i x x at)
 
 -- a relation of all pairs holds of the elements at two places
-pub pairs_at : {X : Type 0} (R : X → X → Type 0) (xs : List X) (i j : ℕ) (x y : X) → AllPairs R xs → i < j → slice_get xs i ≡ Some x
+pub pairs_at : {X : Type 0} (R : X → X → Type 0) (xs : List X) (i j : ℕ) (x y : X) → AllPairs R xs → i < j
+    → slice_get xs i ≡ Some x
     → slice_get xs j ≡ Some y → R x y
 pairs_at R xs i j x y pairs below at_i at_j = grind (arith, slice_get_within, get_or_from_slice_get)
 
@@ -327,7 +346,8 @@ pub one_at : {X : Type 0} (xs : List X) (i : ℕ) (x y : X) → slice_get xs i �
 one_at xs i x y at_x at_y = sym (get_or_from_slice_get xs i x x at_x) ∙ get_or_from_slice_get xs i y x at_y
 
 -- if keys rise, elements with the same key are the same, at the same place
-pub one_by_key : {X : Type 0} (key : X → ℕ) (xs : List X) (i j : ℕ) (x y : X) → AllPairs (λ a b. key a < key b) xs → slice_get xs i ≡ Some x
+pub one_by_key : {X : Type 0} (key : X → ℕ) (xs : List X) (i j : ℕ) (x y : X) → AllPairs (λ a b. key a < key b) xs
+    → slice_get xs i ≡ Some x
     → slice_get xs j ≡ Some y → key x ≡ key y → (i ≡ j) × (x ≡ y)
 one_by_key key xs i j x y rise at_x at_y same = elim (cases_order i j) [
   | inl here ↦ (here, one_at xs j x y (subst (λ k. slice_get xs k ≡ Some x) here at_x) at_y)
@@ -361,10 +381,12 @@ pub record IsTraced (events : List Event) (o : Operation) : Type 0 where
   pub in_order : called_at < returned_at
   pub made : IsMadeOf call answer o
   pub same_thread : answer.thread ≡ call.thread
-  pub none_between : (k : ℕ) (e : Event) → called_at < k → k < returned_at → slice_get events k ≡ Some e → nat_eq e.thread call.thread ≡ false
+  pub none_between : (k : ℕ) (e : Event) → called_at < k → k < returned_at → slice_get events k ≡ Some e
+      → nat_eq e.thread call.thread ≡ false
 
 -- an element of a list with an optional first element is that one or one of the list
-pub contains_cons_option : {X : Type 0} (o : Option X) (xs : List X) (x : X) → Contains (cons_option o xs) x → (o ≡ Some x) ⊎ Contains xs x
+pub contains_cons_option : {X : Type 0} (o : Option X) (xs : List X) (x : X) → Contains (cons_option o xs) x
+    → (o ≡ Some x) ⊎ Contains xs x
 contains_cons_option None xs x among = inr among
 contains_cons_option (Some y) xs x among = elim (contains_cons y xs x among) [ inl same ↦ inl (ap (λ z. Some z) same) | inr there ↦ inr there ]
 
@@ -406,11 +428,13 @@ traced events o among =
     }
 
 -- events with the same ticket are the same, at the same place
-pub same_event : (events : List Event) (i j : ℕ) (e r : Event) → TicketsRise events → slice_get events i ≡ Some e → slice_get events j ≡ Some r
+pub same_event : (events : List Event) (i j : ℕ) (e r : Event) → TicketsRise events → slice_get events i ≡ Some e
+    → slice_get events j ≡ Some r
     → e.ticket ≡ r.ticket → i ≡ j
 same_event events i j e r rise at_i at_j same = (one_by_key (λ x. x.ticket) events i j e r rise at_i at_j same).0
 
-call_and_return : (call answer : What) (k : OpKind) → kind_of call answer ≡ Some k → (is_call call ≡ true) × (is_call answer ≡ false)
+call_and_return : (call answer : What) (k : OpKind) → kind_of call answer ≡ Some k
+    → (is_call call ≡ true) × (is_call answer ≡ false)
 call_and_return call answer k e = grind arith
 
 module _ (events : List Event) (rise : TicketsRise events) where
@@ -423,7 +447,8 @@ module _ (events : List Event) (rise : TicketsRise events) where
       let calls = (call_and_return ty.call.what ty.answer.what y.kind ty.made.kind).0 in
       false≢true (sym returns ∙ ap (λ e. is_call e.what) one ∙ calls)
 
-  not_called_between : (x y : Operation) (tx : IsTraced events x) (ty : IsTraced events y) → x.ret ≡ y.ret → tx.called_at < ty.called_at → ⊥
+  not_called_between : (x y : Operation) (tx : IsTraced events x) (ty : IsTraced events y) → x.ret ≡ y.ret
+      → tx.called_at < ty.called_at → ⊥
   not_called_between x y tx ty same below =
       let one = one_by_key (λ e. e.ticket) events tx.returned_at ty.returned_at tx.answer ty.answer rise tx.at_return ty.at_return
       (sym tx.made.returned ∙ same ∙ ty.made.returned) in
@@ -450,7 +475,8 @@ calls_rise [] rise = λ i j d below within. absurd (omega arith)
 calls_rise (e ∷ later) rise = join (operation_of e (find (λ r. nat_eq r.thread e.thread) later)) refl (calls_rise later (rises_later e later rise))
   where
     join : (made : Option Operation) → operation_of e (find (λ r. nat_eq r.thread e.thread) later) ≡ made
-        → AllPairs (λ x y. x.call < y.call) (operations_of later) → AllPairs (λ x y. x.call < y.call) (cons_option made (operations_of later))
+        → AllPairs (λ x y. x.call < y.call) (operations_of later)
+        → AllPairs (λ x y. x.call < y.call) (cons_option made (operations_of later))
     join None same more = more
     join (Some o) same more = AllPairs-cons (λ x y. x.call < y.call) o (operations_of later) (λ k d below.
         let made = made_of e (find (λ r. nat_eq r.thread e.thread) later) o same in
@@ -458,14 +484,16 @@ calls_rise (e ∷ later) rise = join (operation_of e (find (λ r. nat_eq r.threa
         let above = pairs_at (λ x y. x.ticket < y.ticket) (e ∷ later) zero (suc t.called_at) e t.call rise (omega arith) refl t.at_call in
         omega (arith, made.2.called, t.made.called, above)) more
 
-kind_at : (xs : List Operation) (i : ℕ) (o : Operation) → slice_get xs i ≡ Some o → slice_get (map (λ o. o.kind) xs) i ≡ Some o.kind
+kind_at : (xs : List Operation) (i : ℕ) (o : Operation) → slice_get xs i ≡ Some o
+    → slice_get (map (λ o. o.kind) xs) i ≡ Some o.kind
 kind_at xs i o at = slice_get-map (λ o. o.kind) xs i ∙ ap (option_map (λ o. o.kind)) at
 
 calls_for : (v : ℕ) (k : OpKind) → enqueued_value k ≡ Some v → calls_of_kind v k ≡ 1
 calls_for v k is = grind (arith, eq-eqb)
 
 -- each operation of a complete history returns after its call, and at a ticket in range
-pub each_timed : (events : List Event) → IsCompleteHistory events → All (λ o. (o.call < o.ret) × (o.ret ≤ MAX_TICKET)) (operations_of events)
+pub each_timed : (events : List Event) → IsCompleteHistory events
+    → All (λ o. (o.call < o.ret) × (o.ret ≤ MAX_TICKET)) (operations_of events)
 each_timed events complete k d below =
     let o = get_or (operations_of events) k d in
     let t = traced events o (Contains-get_or (operations_of events) k d below) in
@@ -473,12 +501,14 @@ each_timed events complete k d below =
     grind (arith, All-contains, contains_at)
 
 -- an operation of a complete history returns after its call, and at a ticket in range
-pub operation_within : (events : List Event) (o : Operation) → IsCompleteHistory events → Contains (operations_of events) o
+pub operation_within : (events : List Event) (o : Operation) → IsCompleteHistory events
+    → Contains (operations_of events) o
     → (o.call < o.ret) × (o.ret ≤ MAX_TICKET)
 operation_within events o complete among = grind (arith, All-contains, each_timed)
 
 -- no operation of a complete history returns with the ticket of a call
-pub returns_at_no_call : (events : List Event) (x y : Operation) → IsCompleteHistory events → Contains (operations_of events) x
+pub returns_at_no_call : (events : List Event) (x y : Operation) → IsCompleteHistory events
+    → Contains (operations_of events) x
     → Contains (operations_of events) y → x.ret ≢ y.call
 returns_at_no_call events x y complete in_x in_y =
     return_is_no_call events complete.tickets_rise x y (traced events x in_x) (traced events y in_y)
@@ -535,7 +565,8 @@ module _ (operations : List Operation) (x y : Operation) (complete : AreComplete
   returns_at_call same = grind (arith, one_or_apart, All-contains)
 
 -- no operation is called after its return
-pub call_by_return : (operations : List Operation) (o : Operation) → AreComplete operations → Contains operations o → o.call ≤ o.ret
+pub call_by_return : (operations : List Operation) (o : Operation) → AreComplete operations → Contains operations o
+    → o.call ≤ o.ret
 call_by_return operations o complete among = (All-contains IsTimed operations o complete.timed among).returns_late
 
 -- an operation that is no successful enqueue is called before it returns
@@ -548,14 +579,16 @@ pub no_enqueue : (o : Operation) (k : OpKind) → o.kind ≡ k → put_in k ≡ 
 no_enqueue o k is none v same = let clash : None ≡ Some v = sym none ∙ ap put_in (sym is ∙ same) in cc
 
 -- no operation returns at the call of one that is no successful enqueue
-pub return_differs_from_call : (operations : List Operation) (x y : Operation) → AreComplete operations → Contains operations x
+pub return_differs_from_call : (operations : List Operation) (x y : Operation) → AreComplete operations
+    → Contains operations x
     → Contains operations y → ((v : ℕ) → y.kind ≢ Enqueue v) → x.ret ≢ y.call
 return_differs_from_call operations x y complete in_x in_y other same =
     let one = returns_at_call operations x y complete in_x in_y same in
     grind (arith, call_before_return)
 
 -- operations return within the scale of time
-pub return_in_range : (operations : List Operation) (o : Operation) → AreComplete operations → Contains operations o → o.ret ≤ MAX_TIME
+pub return_in_range : (operations : List Operation) (o : Operation) → AreComplete operations → Contains operations o
+    → o.ret ≤ MAX_TIME
 return_in_range operations o complete among = (All-contains IsTimed operations o complete.timed among).in_range
 
 -- the operation calls to enqueue this value, successfully or not
@@ -567,7 +600,8 @@ called_value_of o v (inl e) = ap enqueued_value e
 called_value_of o v (inr e) = ap enqueued_value e
 
 -- operations that call to enqueue the same value are equal
-pub same_value_call : (operations : List Operation) (x y : Operation) (v : ℕ) → AreComplete operations → Contains operations x → Contains operations y
+pub same_value_call : (operations : List Operation) (x y : Operation) (v : ℕ) → AreComplete operations
+    → Contains operations x → Contains operations y
     → CallsFor x v → CallsFor y v → x ≡ y
 same_value_call operations x y v complete in_x in_y for_x for_y = elim (one_or_apart operations x y complete in_x in_y) [
   | inl one ↦ one
@@ -576,7 +610,8 @@ same_value_call operations x y v complete in_x in_y for_x for_y = elim (one_or_a
 ]
 
 -- enqueues of the same value are equal
-pub same_enqueue : (operations : List Operation) (x y : Operation) (v : ℕ) → AreComplete operations → Did operations x (Enqueue v)
+pub same_enqueue : (operations : List Operation) (x y : Operation) (v : ℕ) → AreComplete operations
+    → Did operations x (Enqueue v)
     → Did operations y (Enqueue v) → x ≡ y
 same_enqueue operations x y v complete did_x did_y = same_value_call operations x y v complete did_x.0 did_y.0 (inl did_x.1) (inl did_y.1)
 
@@ -585,12 +620,14 @@ same_enqueue operations x y v complete did_x did_y = same_value_call operations 
 -- ---- initial values: distinct so far, or the first that equals an earlier one
 
 -- values stay distinct with one that isn't among them yet
-pub distinct_more : (values : List ℕ) (v : ℕ) → AreDistinct values → is_initial values v ≡ false → AreDistinct (values ++ v ∷ [])
+pub distinct_more : (values : List ℕ) (v : ℕ) → AreDistinct values → is_initial values v ≡ false
+    → AreDistinct (values ++ v ∷ [])
 distinct_more values v distinct new = all_pairs_push (λ x y. x ≢ y) values v distinct
     (λ k d below same. false≢true (sym new ∙ list_any_at (λ w. nat_eq w v) values k d below (eq-eqb _ _ same)))
 
 -- a value that is among the earlier ones is the fault of the initial values
-pub twice_at : (initial : List ℕ) (j v : ℕ) → slice_get initial j ≡ Some v → AreDistinct (take j initial) → is_initial (take j initial) v ≡ true
+pub twice_at : (initial : List ℕ) (j v : ℕ) → slice_get initial j ≡ Some v → AreDistinct (take j initial)
+    → is_initial (take j initial) v ≡ true
     → HasRefusedInitial initial (InitialTwice j)
 twice_at initial j v here distinct there = grind (arith, Any-from_list_any, eqb-true, get_or_default)
 
@@ -617,7 +654,8 @@ initial_distinct initial events complete i j d below inside same = grind (arith,
 -- ---- values of calls
 
 -- a list is cut at the element of a place
-pub cut_at : {X : Type 0} (xs : List X) (i : ℕ) (x : X) → slice_get xs i ≡ Some x → xs ≡ take i xs ++ x ∷ drop (suc i) xs
+pub cut_at : {X : Type 0} (xs : List X) (i : ℕ) (x : X) → slice_get xs i ≡ Some x
+    → xs ≡ take i xs ++ x ∷ drop (suc i) xs
 cut_at xs i x at = split_at xs i x (slice_get_within xs i x at) ∙ ap (λ y. take i xs ++ y ∷ drop (suc i) xs) (get_or_from_slice_get xs i x x at)
 
 -- a value was called if it is among the values of the calls
@@ -631,7 +669,8 @@ behind_option None xs x among = among
 behind_option (Some y) xs x among = (suc among.0, omega (arith, among.1), among.2)
 
 -- the value that an event calls with is among the values of the calls
-pub value_called : (events : List Event) (i : ℕ) (e : Event) (w : ℕ) → slice_get events i ≡ Some e → called_value e.what ≡ Some w
+pub value_called : (events : List Event) (i : ℕ) (e : Event) (w : ℕ) → slice_get events i ≡ Some e
+    → called_value e.what ≡ Some w
     → Contains (called_values events) w
 value_called [] i e w at is = cc
 value_called (x ∷ events) zero e w at is = grind (arith, same_Some)
@@ -643,8 +682,10 @@ pub known_is : (initial : List ℕ) (events : List Event) (v : ℕ)
 known_is initial events v = grind (arith, or_comm, was_called_is, list_any-append)
 
 -- the initial values and those of the calls stay distinct with a call for a new value
-pub distinct_push : (initial : List ℕ) (events : List Event) (e : Event) → AreDistinct (initial ++ called_values events)
-    → (repeats_value events e || calls_initial initial e) ≡ false → AreDistinct (initial ++ called_values (events ++ e ∷ []))
+pub distinct_push : (initial : List ℕ) (events : List Event) (e : Event)
+    → AreDistinct (initial ++ called_values events)
+    → (repeats_value events e || calls_initial initial e) ≡ false
+    → AreDistinct (initial ++ called_values (events ++ e ∷ []))
 distinct_push initial events e distinct new =
     rw (filter_map-append (λ x. called_value x.what) events (e ∷ []), sym (append_assoc initial (called_values events) (cons_option (called_value e.what) [])))
     (join (called_value e.what) new)
@@ -652,17 +693,20 @@ distinct_push initial events e distinct new =
     values : List ℕ
     values = initial ++ called_values events
 
-    join : (called : Option ℕ) → (option_map_or (was_called events) called false || option_map_or (is_initial initial) called false) ≡ false
+    join : (called : Option ℕ)
+        → (option_map_or (was_called events) called false || option_map_or (is_initial initial) called false) ≡ false
         → AreDistinct (values ++ cons_option called [])
     join None new' = rw append-nil distinct
     join (Some v) new' = distinct_more values v distinct (sym (known_is initial events v) ∙ new')
 
 -- a call between others has a new value if all initial and called values are distinct
-pub new_from_distinct : (initial : List ℕ) (before later : List Event) (e : Event) → AreDistinct (initial ++ called_values (before ++ e ∷ later))
+pub new_from_distinct : (initial : List ℕ) (before later : List Event) (e : Event)
+    → AreDistinct (initial ++ called_values (before ++ e ∷ later))
     → (repeats_value before e || calls_initial initial e) ≡ false
 new_from_distinct initial before later e distinct = join (called_value e.what) (rw (filter_map-append (λ x. called_value x.what) before (e ∷ later)) at distinct)
   where
-    join : (called : Option ℕ) → AreDistinct (initial ++ (called_values before ++ cons_option called (called_values later)))
+    join : (called : Option ℕ)
+        → AreDistinct (initial ++ (called_values before ++ cons_option called (called_values later)))
         → (option_map_or (was_called before) called false || option_map_or (is_initial initial) called false) ≡ false
     join None distinct' = refl
     join (Some v) distinct' = false_from_ne_true (was_called before v || is_initial initial v) repeated
@@ -681,5 +725,6 @@ new_from_distinct initial before later e distinct = join (called_value e.what) (
 
 -- a property of each place below i, and of i, holds of each place below i + 1
 pub each_more : {X : Type 0} (P : ℕ → X → Type 0) (xs : List X) (i : ℕ) (x : X) → slice_get xs i ≡ Some x → P i x
-    → ((k : ℕ) (y : X) → k < i → slice_get xs k ≡ Some y → P k y) → (k : ℕ) (y : X) → k < i + 1 → slice_get xs k ≡ Some y → P k y
+    → ((k : ℕ) (y : X) → k < i → slice_get xs k ≡ Some y → P k y) → (k : ℕ) (y : X) → k < i + 1
+    → slice_get xs k ≡ Some y → P k y
 each_more P xs i x here holds before k y below at_k = grind (arith, cases_lt, one_at)

@@ -1,12 +1,14 @@
 -- Elements of lists, properties of all their elements or pairs, and lists made from lists. Crates above cite these
 -- lemmas too.
-use Rattle.std.proofs.Common.{◌≡◌, ℕ, zero, suc, ◌+◌, ◌<◌, ◌≤◌, ◌⊎◌, inl, inr, Bool, true, List, [], ◌∷◌, ◌++◌, length, get_or, take, map}
+use Rattle.std.proofs.Common.{◌≡◌, ℕ, zero, suc, ◌+◌, ◌<◌, ◌≤◌, ◌⊎◌, inl, inr, Bool, true, List, [], ◌∷◌, ◌++◌, length}
+use Rattle.std.proofs.Common.{get_or, take, map}
 use Rattle.std.proofs.Common.{Option, Some, None, refl, ap, sym, subst, ◌∙◌, arith, length-append}
 use Rattle.std.specs.Prelude.{All, AllPairs, Contains, filter, filter_map, flat_map, not, slice_get}
 use Rattle.std.specs.List.{AllZip, cons_option}
 use Rattle.std.specs.Option.{option_to_list}
 use Rattle.std.proofs.lemmas.List.{append-nil, get_or-map, get_or_append_left, length-map, take_more}
-use Rattle.std.proofs.lemmas.List.Elements.{All-append, All-contains, All-contains_itself, All-filter, All-map, All-tail, All-weaker}
+use Rattle.std.proofs.lemmas.List.Elements.{All-append, All-contains, All-contains_itself, All-filter, All-map}
+use Rattle.std.proofs.lemmas.List.Elements.{All-tail, All-weaker}
 use Rattle.std.proofs.lemmas.List.Elements.{Contains-append_left, Contains-append_right, Contains-get_or}
 use Rattle.std.proofs.lemmas.List.Elements.{filter-append, filter_map-append, filter_passes}
 use Rattle.std.proofs.lemmas.List.Filters.{length-filter_both}
@@ -22,13 +24,15 @@ at_place [] i within = absurd (omega arith)
 at_place (x ∷ xs) i within = (_, slice_get-get_or (x ∷ xs) i x within)
 
 -- a place within the first of two lists is one of the first
-pub slice_get-append_left : {X : Type 0} (xs ys : List X) (i : ℕ) → i < length xs → slice_get (xs ++ ys) i ≡ slice_get xs i
+pub slice_get-append_left : {X : Type 0} (xs ys : List X) (i : ℕ) → i < length xs
+    → slice_get (xs ++ ys) i ≡ slice_get xs i
 slice_get-append_left [] ys i within = absurd (omega arith)
 slice_get-append_left (x ∷ xs) ys zero within = refl
 slice_get-append_left (x ∷ xs) ys (suc i) within = slice_get-append_left xs ys i (omega arith)
 
 -- a place of a list with one more element is one of the list, or the last
-pub with_one_more : {X : Type 0} (xs : List X) (x y : X) (k : ℕ) → slice_get (xs ++ x ∷ []) k ≡ Some y → (slice_get xs k ≡ Some y) ⊎ ((k ≡ length xs) × (x ≡ y))
+pub with_one_more : {X : Type 0} (xs : List X) (x y : X) (k : ℕ) → slice_get (xs ++ x ∷ []) k ≡ Some y
+    → (slice_get xs k ≡ Some y) ⊎ ((k ≡ length xs) × (x ≡ y))
 with_one_more [] x y zero at = let same : x ≡ y = cc in inr (refl, same)
 with_one_more [] x y (suc k) at = cc
 with_one_more (z ∷ xs) x y zero at = inl at
@@ -45,7 +49,8 @@ pub one_deeper : {X : Type 0} (x : X) (xs : List X) (y : X) → Contains xs y �
 one_deeper x xs y among = (suc among.0, omega (arith, among.1), among.2)
 
 -- an element of what `filter_map` gives comes from one of the list
-pub kept : {X Y : Type 0} (h : X → Option Y) (xs : List X) (y : Y) → Contains (filter_map h xs) y → (x : X) × Contains xs x × (h x ≡ Some y)
+pub kept : {X Y : Type 0} (h : X → Option Y) (xs : List X) (y : Y) → Contains (filter_map h xs) y
+    → (x : X) × Contains xs x × (h x ≡ Some y)
 kept h [] y among = absurd (not_in_none y among)
 kept {X} {Y} h (x ∷ xs) y among = pick (kept h xs y) (h x) refl among
   where
@@ -58,7 +63,8 @@ kept {X} {Y} h (x ∷ xs) y among = pick (kept h xs y) (h x) refl among
     ]
 
 -- the image of an element is in what `filter_map` gives
-pub keeps : {X Y : Type 0} (h : X → Option Y) (xs : List X) (x : X) (y : Y) → Contains xs x → h x ≡ Some y → Contains (filter_map h xs) y
+pub keeps : {X Y : Type 0} (h : X → Option Y) (xs : List X) (x : X) (y : Y) → Contains xs x → h x ≡ Some y
+    → Contains (filter_map h xs) y
 keeps h xs x y among same = let at = place_of xs x among in subst (λ all. Contains (filter_map h all) y) (sym (cut_at xs at.0 x at.1))
     (rw (filter_map-append, same) (Contains-append_right (filter_map h (take at.0 xs)) _ y (zero, omega arith, refl)))
 
@@ -73,7 +79,8 @@ option_cons None xs = refl
 option_cons (Some x) xs = refl
 
 -- an image in a mapped list comes from an element
-pub mapped_from : {X Y : Type 0} (f : X → Y) (xs : List X) (y : Y) → Contains (map f xs) y → (x : X) × Contains xs x × (f x ≡ y)
+pub mapped_from : {X Y : Type 0} (f : X → Y) (xs : List X) (y : Y) → Contains (map f xs) y
+    → (x : X) × Contains xs x × (f x ≡ y)
 mapped_from {X} f xs y among = All-contains (λ z. (x : X) × Contains xs x × (f x ≡ z)) (map f xs) y
     (All-map (λ z. (x : X) × Contains xs x × (f x ≡ z)) f xs
     (All-weaker (Contains xs) (λ z. (x : X) × Contains xs x × (f x ≡ f z)) (λ x here. (x, here, refl)) xs (All-contains_itself xs))) among
@@ -83,19 +90,22 @@ pub mapped_to : {X Y : Type 0} (f : X → Y) (xs : List X) (x : X) → Contains 
 mapped_to f xs x among = (among.0, rw (length-map xs f) among.1, get_or-map f xs among.0 x (f x) among.1 ∙ ap f among.2)
 
 -- an element that passes a test is in the filtered list
-pub passes_filter : {X : Type 0} (p : X → Bool) (xs : List X) (x : X) → p x ≡ true → Contains xs x → Contains (filter p xs) x
+pub passes_filter : {X : Type 0} (p : X → Bool) (xs : List X) (x : X) → p x ≡ true → Contains xs x
+    → Contains (filter p xs) x
 passes_filter p xs x is among = let at = place_of xs x among in subst (λ all. Contains (filter p all) x) (sym (cut_at xs at.0 x at.1))
     (rw (filter-append, is) (Contains-append_right (filter p (take at.0 xs)) _ x (zero, omega arith, refl)))
 
 -- an element of the filtered list is in the list and passes
-pub passed_filter : {X : Type 0} (p : X → Bool) (xs : List X) (x : X) → Contains (filter p xs) x → Contains xs x × (p x ≡ true)
+pub passed_filter : {X : Type 0} (p : X → Bool) (xs : List X) (x : X) → Contains (filter p xs) x
+    → Contains xs x × (p x ≡ true)
 passed_filter p xs x among = (
   All-contains (Contains xs) (filter p xs) x (All-filter p (Contains xs) xs (All-contains_itself xs)) among,
   All-contains (λ y. p y ≡ true) (filter p xs) x (filter_passes p xs) among,
 )
 
 -- an element of one part is in the flattened list
-pub into_flat_map : {X Y : Type 0} (f : X → List Y) (xs : List X) (x : X) (y : Y) → Contains xs x → Contains (f x) y → Contains (flat_map f xs) y
+pub into_flat_map : {X Y : Type 0} (f : X → List Y) (xs : List X) (x : X) (y : Y) → Contains xs x → Contains (f x) y
+    → Contains (flat_map f xs) y
 into_flat_map f [] x y among at = absurd (not_in_none x among)
 into_flat_map f (z ∷ xs) x y among at = elim (contains_cons z xs x among) [
   | inl same ↦ Contains-append_left (f z) (flat_map f xs) y (subst (λ w. Contains (f w) y) (sym same) at)
@@ -118,7 +128,8 @@ All-right P [] ys all = all
 All-right P (x ∷ xs) ys all = All-right P xs ys (All-tail P x (xs ++ ys) all)
 
 -- zipped lists with one more pair
-pub one_more_zipped : {A B : Type 0} (R : A → B → Type 0) (xs : List A) (ys : List B) (x : A) (y : B) → AllZip R xs ys → R x y
+pub one_more_zipped : {A B : Type 0} (R : A → B → Type 0) (xs : List A) (ys : List B) (x : A) (y : B) → AllZip R xs ys
+    → R x y
     → AllZip R (xs ++ x ∷ []) (ys ++ y ∷ [])
 one_more_zipped R [] [] x y zip is = (is, zip)
 one_more_zipped R (z ∷ xs) (w ∷ ys) x y zip is = (zip.0, one_more_zipped R xs ys x y zip.1 is)
@@ -131,7 +142,8 @@ pub AllPairs-tail : {X : Type 0} (R : X → X → Type 0) (x : X) (xs : List X) 
 AllPairs-tail R x xs pairs i j d below within = pairs (suc i) (suc j) d (omega arith) (omega arith)
 
 -- a relation of all pairs holds of the first element and each other
-pub pairs_first : {X : Type 0} (R : X → X → Type 0) (x : X) (xs : List X) (y : X) → AllPairs R (x ∷ xs) → Contains xs y → R x y
+pub pairs_first : {X : Type 0} (R : X → X → Type 0) (x : X) (xs : List X) (y : X) → AllPairs R (x ∷ xs) → Contains xs y
+    → R x y
 pairs_first R x xs y pairs among = let at = place_of xs y among in pairs_at R (x ∷ xs) zero (suc at.0) x y pairs (omega arith) refl at.1
 
 -- a relation of all pairs of two lists holds of all of the second
@@ -150,7 +162,8 @@ pairs_append R (x ∷ xs) ys first second across =
     (pairs_append R xs ys (AllPairs-tail R x xs first) second (λ y z in_y in_z. across y z (one_deeper x xs y in_y) in_z))
 
 -- a relation of the images of all pairs holds of all pairs of images
-pub pairs_map : {X Y : Type 0} (R : Y → Y → Type 0) (f : X → Y) (xs : List X) → AllPairs (λ x y. R (f x) (f y)) xs → AllPairs R (map f xs)
+pub pairs_map : {X Y : Type 0} (R : Y → Y → Type 0) (f : X → Y) (xs : List X) → AllPairs (λ x y. R (f x) (f y)) xs
+    → AllPairs R (map f xs)
 pairs_map R f [] pairs = λ i j d below inside. absurd (omega arith)
 pairs_map R f (x ∷ xs) pairs =
     AllPairs-cons R (f x) (map f xs) (All-map (R (f x)) f xs (λ k d inside. pairs zero (suc k) d (omega arith) (omega arith)))
@@ -166,7 +179,8 @@ module _ {X Y : Type 0} (find : X → Option Y) (xs : List X) (i : ℕ) (d : X) 
       ∙ ap (λ (ys : List Y). ys ++ cons_option (find (get_or xs i d)) []) (sym was)
 
   -- an element is found at the next place
-  pub found_one : (y : Y) (now : List Y) → find (get_or xs i d) ≡ Some y → now ≡ before ++ y ∷ [] → now ≡ filter_map find (take (i + 1) xs)
+  pub found_one : (y : Y) (now : List Y) → find (get_or xs i d) ≡ Some y → now ≡ before ++ y ∷ []
+      → now ≡ filter_map find (take (i + 1) xs)
   found_one y now is pushed = pushed ∙ sym (one_more ∙ ap (λ (r : Option Y). before ++ cons_option r []) is)
 
   -- no element is found at the next place

@@ -24,7 +24,8 @@ nothing_at (suc n) zero = refl
 nothing_at (suc n) (suc i) = nothing_at n i
 
 -- a property of all events holds of the next one
-next_holds : (P : Event → Type 0) (thread : ℕ) (xs : List Event) (r : Event) → All P xs → next_of thread xs ≡ Some r → P r
+next_holds : (P : Event → Type 0) (thread : ℕ) (xs : List Event) (r : Event) → All P xs → next_of thread xs ≡ Some r
+    → P r
 next_holds P thread xs r all is =
     let first = found_first (λ x. nat_eq x.thread thread) xs r is in All-contains P xs r all (contains_at xs first.place r first.at)
 
@@ -40,7 +41,8 @@ above_first : (e : Event) (later : List Event) → TicketsRise (e ∷ later) →
 above_first e later rise k d below = rise zero (suc k) d (omega arith) (omega arith)
 
 -- the next events of two threads have different tickets
-next_apart : (xs : List Event) (k t : ℕ) (f r : Event) → TicketsRise xs → next_of k xs ≡ Some f → next_of t xs ≡ Some r → k ≢ t → f.ticket ≢ r.ticket
+next_apart : (xs : List Event) (k t : ℕ) (f r : Event) → TicketsRise xs → next_of k xs ≡ Some f → next_of t xs ≡ Some r
+    → k ≢ t → f.ticket ≢ r.ticket
 next_apart xs k t f r rise is_f is_r apart same =
     let first_f = found_first (λ x. nat_eq x.thread k) xs f is_f in
     let first_r = found_first (λ x. nat_eq x.thread t) xs r is_r in
@@ -48,11 +50,13 @@ next_apart xs k t f r rise is_f is_r apart same =
     apart (sym (next_thread k xs f is_f) ∙ ap (λ x. x.thread) one ∙ next_thread t xs r is_r)
 
 -- a due event is the next event of its thread, and a return
-due_is : (k : ℕ) (events : List Event) (f : Event) → due_in k events ≡ Some f → (next_of k events ≡ Some f) × (is_call f.what ≡ false)
+due_is : (k : ℕ) (events : List Event) (f : Event) → due_in k events ≡ Some f
+    → (next_of k events ≡ Some f) × (is_call f.what ≡ false)
 due_is k events f due = grind arith
 
 -- no return is due in a thread whose next event is a call
-due_of_call : (k : ℕ) (events : List Event) (e : Event) → next_of k events ≡ Some e → is_call e.what ≡ true → due_in k events ≡ None
+due_of_call : (k : ℕ) (events : List Event) (e : Event) → next_of k events ≡ Some e → is_call e.what ≡ true
+    → due_in k events ≡ None
 due_of_call k events e is call = rw (is, call) refl
 
 -- ---- the events of an operation
@@ -62,12 +66,14 @@ pub call_so_far : (e : Event) (next : Option Event) → is_call e.what ≡ true 
 call_so_far e next call = grind arith
 
 -- an operation has the ticket and the thread of its call
-so_far_is : (e : Event) (next : Option Event) → ((operation_so_far e next).call ≡ e.ticket) × ((operation_so_far e next).thread ≡ e.thread)
+so_far_is : (e : Event) (next : Option Event)
+    → ((operation_so_far e next).call ≡ e.ticket) × ((operation_so_far e next).thread ≡ e.thread)
 so_far_is e next = grind arith
 
 -- the return of an operation is the next event of its thread
 return_so_far : (e : Event) (later : List Event) → is_call e.what ≡ true → TicketsRise (e ∷ later)
-    → IfSome (next_of e.thread later) (FollowsInTurn e) → maybe_return (operation_so_far e (next_of e.thread later)) ≡ due_in e.thread later
+    → IfSome (next_of e.thread later) (FollowsInTurn e)
+    → maybe_return (operation_so_far e (next_of e.thread later)) ≡ due_in e.thread later
 return_so_far e later call rise turn = join (next_of e.thread later) refl turn
   where
     join : (next : Option Event) → next_of e.thread later ≡ next → IfSome next (FollowsInTurn e)
@@ -84,7 +90,8 @@ put_first e [] above = refl
 put_first e (x ∷ xs) above = let is = lt-ltb e.ticket x.ticket (above zero x (omega arith)) in rw is refl
 
 -- two events with different tickets may be inserted in any order
-put_commutes : (a b : Event) (xs : List Event) → a.ticket ≢ b.ticket → put_by_ticket a (put_by_ticket b xs) ≡ put_by_ticket b (put_by_ticket a xs)
+put_commutes : (a b : Event) (xs : List Event) → a.ticket ≢ b.ticket
+    → put_by_ticket a (put_by_ticket b xs) ≡ put_by_ticket b (put_by_ticket a xs)
 put_commutes a b [] apart = grind (arith, nat_tests)
 put_commutes a b (x ∷ xs) apart = grind (arith, nat_tests, put_commutes a b xs apart)
 
@@ -104,7 +111,8 @@ put_past r (p ∷ due) xs apart =
     ap (put_maybe p) (put_past r due xs (λ k f at. apart (suc k) f at)) ∙ maybe_past r p (put_each due xs) (apart zero)
 
 -- one more return is due, in a thread in which none was
-put_new : (r : Event) (due : List (Option Event)) (t : ℕ) (xs : List Event) → t < length due → get_or due t None ≡ None → AreApart r due
+put_new : (r : Event) (due : List (Option Event)) (t : ℕ) (xs : List Event) → t < length due → get_or due t None ≡ None
+    → AreApart r due
     → put_each (set due t (Some r)) xs ≡ put_each due (put_by_ticket r xs)
 put_new r [] t xs below none apart = absurd (omega (arith, below))
 put_new r (p ∷ due) zero xs below none apart = sym (ap (λ q. put_maybe q (put_each due (put_by_ticket r xs))) none
@@ -113,7 +121,8 @@ put_new r (p ∷ due) (suc t) xs below none apart =
     ap (put_maybe p) (put_new r due t xs (omega (arith, below)) none (λ k f at. apart (suc k) f at))
 
 -- a due return comes
-put_gone : (r : Event) (due : List (Option Event)) (t : ℕ) (xs : List Event) → get_or due t None ≡ Some r → AreApart r (set due t None)
+put_gone : (r : Event) (due : List (Option Event)) (t : ℕ) (xs : List Event) → get_or due t None ≡ Some r
+    → AreApart r (set due t None)
     → put_each due xs ≡ put_by_ticket r (put_each (set due t None) xs)
 put_gone r [] t xs at apart = cc
 put_gone r (p ∷ due) zero xs at apart = ap (λ q. put_maybe q (put_each due xs)) at
@@ -124,11 +133,13 @@ set_none : (due : List (Option Event)) (t : ℕ) → get_or due t None ≡ None 
 set_none due t none = ap (set due t) (sym none) ∙ set-get_or due t None
 
 -- if no return is due, the events are those of the operations
-pub put_none : (due : List (Option Event)) (xs : List Event) → ((k : ℕ) → get_or due k None ≡ None) → put_each due xs ≡ xs
+pub put_none : (due : List (Option Event)) (xs : List Event) → ((k : ℕ) → get_or due k None ≡ None)
+    → put_each due xs ≡ xs
 put_none [] xs none = refl
 put_none (p ∷ due) xs none = ap (λ q. put_maybe q (put_each due xs)) (none zero) ∙ put_none due xs (λ k. none (suc k))
 
-each_behind : (e : Event) (due : List (Option Event)) (xs : List Event) → ((k : ℕ) (f : Event) → get_or due k None ≡ Some f → e.ticket < f.ticket)
+each_behind : (e : Event) (due : List (Option Event)) (xs : List Event)
+    → ((k : ℕ) (f : Event) → get_or due k None ≡ Some f → e.ticket < f.ticket)
     → put_each due (e ∷ xs) ≡ e ∷ put_each due xs
 each_behind e [] xs above = refl
 each_behind e (p ∷ due) xs above = ap (put_maybe p) (each_behind e due xs (λ k f at. above (suc k) f at)) ∙ grind (arith, nat_tests, above zero)
@@ -139,12 +150,14 @@ some_within : (due : List (Option Event)) (k : ℕ) (f : Event) → get_or due k
 some_within due k f at = grind (arith, get_or_past)
 
 -- a due return is due in its thread
-due_at : (events : List Event) (by_call : List Operation) (due : List (Option Event)) (k : ℕ) (f : Event) → AreLeft events by_call due
+due_at : (events : List Event) (by_call : List Operation) (due : List (Option Event)) (k : ℕ) (f : Event)
+    → AreLeft events by_call due
     → get_or due k None ≡ Some f → due_in k events ≡ Some f
 due_at events by_call due k f left at = grind (arith, some_within)
 
 -- the events that are left after the first
-step : (e : Event) (later : List Event) (by_call : List Operation) (due : List (Option Event)) → AreLeft (e ∷ later) by_call due
+step : (e : Event) (later : List Event) (by_call : List Operation) (due : List (Option Event))
+    → AreLeft (e ∷ later) by_call due
     → AreLeft later (operations_so_far later) (set due e.thread (due_in e.thread later))
 step e later by_call due left = record {
   run = assumption (rises_later e later left.run.rise, left.run.turns, All-tail (λ x. x.thread ≤ MAX_THREAD) e later left.run.threads);
@@ -158,7 +171,8 @@ step e later by_call due left = record {
 }
 
 -- the thread of the first event is in range
-thread_within : (e : Event) (later : List Event) (by_call : List Operation) (due : List (Option Event)) → AreLeft (e ∷ later) by_call due
+thread_within : (e : Event) (later : List Event) (by_call : List Operation) (due : List (Option Event))
+    → AreLeft (e ∷ later) by_call due
     → e.thread ≤ MAX_THREAD
 thread_within e later by_call due left = All-head (λ x. x.thread ≤ MAX_THREAD) e later left.run.threads
 
@@ -166,22 +180,27 @@ next_own : (e : Event) (later : List Event) → next_of e.thread (e ∷ later) �
 next_own e later = grind (arith, nat_tests)
 
 -- after a return, none is due in its thread before its next call
-none_due_after : (e : Event) (later : List Event) → AreInTurn (e ∷ later) → is_call e.what ≡ false → due_in e.thread later ≡ None
+none_due_after : (e : Event) (later : List Event) → AreInTurn (e ∷ later) → is_call e.what ≡ false
+    → due_in e.thread later ≡ None
 none_due_after e later turns returns = grind (arith, turns.0)
 
 -- if a return comes first, it is due
-due_first : (e : Event) (later : List Event) (by_call : List Operation) (due : List (Option Event)) → AreLeft (e ∷ later) by_call due
+due_first : (e : Event) (later : List Event) (by_call : List Operation) (due : List (Option Event))
+    → AreLeft (e ∷ later) by_call due
     → is_call e.what ≡ false → get_or due e.thread None ≡ Some e
 due_first e later by_call due left returns = grind (arith, thread_within, next_own)
 
 -- if a call comes first, each due return comes later
 due_later : (e : Event) (later : List Event) (by_call : List Operation) (due : List (Option Event)) (k : ℕ) (f : Event)
-    → AreLeft (e ∷ later) by_call due → is_call e.what ≡ true → get_or due k None ≡ Some f → (next_of k later ≡ Some f) × (k ≢ e.thread)
+    → AreLeft (e ∷ later) by_call due → is_call e.what ≡ true → get_or due k None ≡ Some f
+    → (next_of k later ≡ Some f) × (k ≢ e.thread)
 due_later e later by_call due k f left call at = grind (arith, nat_tests, due_is k (e ∷ later) f (due_at (e ∷ later) by_call due k f left at))
 
 -- if the first event is a return, the later ones are determined
-told_return : (e : Event) (later : List Event) (by_call : List Operation) (due : List (Option Event)) → AreLeft (e ∷ later) by_call due
-    → is_call e.what ≡ false → put_each (set due e.thread (due_in e.thread later)) (events_of (operations_so_far later)) ≡ later
+told_return : (e : Event) (later : List Event) (by_call : List Operation) (due : List (Option Event))
+    → AreLeft (e ∷ later) by_call due
+    → is_call e.what ≡ false → put_each (set due e.thread (due_in e.thread later))
+    (events_of (operations_so_far later)) ≡ later
     → put_each due (events_of by_call) ≡ e ∷ later
 told_return e later by_call due left returns more =
     let none = none_due_after e later left.run.turns returns in
@@ -199,8 +218,10 @@ told_return e later by_call due left returns more =
     ]
 
 -- if the first event is a call, the later ones are determined
-told_call : (e : Event) (later : List Event) (by_call : List Operation) (due : List (Option Event)) → AreLeft (e ∷ later) by_call due
-    → is_call e.what ≡ true → put_each (set due e.thread (due_in e.thread later)) (events_of (operations_so_far later)) ≡ later
+told_call : (e : Event) (later : List Event) (by_call : List Operation) (due : List (Option Event))
+    → AreLeft (e ∷ later) by_call due
+    → is_call e.what ≡ true → put_each (set due e.thread (due_in e.thread later)) (events_of (operations_so_far later))
+    ≡ later
     → put_each due (events_of by_call) ≡ e ∷ later
 told_call e later by_call due left call more =
     let first = call_so_far e (next_of e.thread later) call in
@@ -221,7 +242,8 @@ told_call e later by_call due left call more =
     empty = left.due e.thread (thread_within e later by_call due left) ∙ due_of_call e.thread (e ∷ later) e (next_own e later) call
 
     new : (d : Option Event) → due_in e.thread later ≡ d
-        → put_each (set due e.thread d) (events_of (operations_so_far later)) ≡ put_each due (put_maybe d (events_of (operations_so_far later)))
+        → put_each (set due e.thread d) (events_of (operations_so_far later))
+        ≡ put_each due (put_maybe d (events_of (operations_so_far later)))
     new None is = ap (λ xs. put_each xs (events_of (operations_so_far later))) (set_none due e.thread empty)
     new (Some r) is =
         let within = thread_within e later by_call due left in
@@ -250,7 +272,8 @@ IsFirstOfAll due (Some e) =
 
 -- the first of some due returns is the first of all, if no other is due
 pub first_of_all : (due : List (Option Event)) (n : ℕ) (first : Option Event) → n ≤ length due
-    → IsFirstDue (take n due) (length (take n due)) first → ((k : ℕ) → n ≤ k → get_or due k None ≡ None) → IsFirstOfAll due first
+    → IsFirstDue (take n due) (length (take n due)) first → ((k : ℕ) → n ≤ k → get_or due k None ≡ None)
+    → IsFirstOfAll due first
 first_of_all due n None within first none = λ k. elim (cases_lt k n) [
   | inl below ↦ sym (get_or-take n due k None below) ∙ first k (rw (length-take-le n due within) below)
   | inr above ↦ none k above
@@ -265,18 +288,21 @@ first_call_above (e ∷ later) t o rest above is =
     grind (arith, All-head (λ x. t < x.ticket) e later above, first_call_above later t o rest (All-tail (λ x. t < x.ticket) e later above))
 
 -- if the first call comes before all due returns, it is the first event
-pub record GivesCall (events : List Event) (o : Operation) (rest : List Operation) (due : List (Option Event)) : Type 0 where
+pub record GivesCall (events : List Event) (o : Operation) (rest : List Operation)
+    (due : List (Option Event)) : Type 0 where
   pub later : List Event
   pub is : events ≡ call_event o ∷ later
   pub thread : o.thread ≤ MAX_THREAD
   pub left : AreLeft later rest (set due o.thread (maybe_return o))
 
-pub gives_call : (events : List Event) (o : Operation) (rest : List Operation) (due : List (Option Event)) (first : Option Event)
+pub gives_call : (events : List Event) (o : Operation) (rest : List Operation) (due : List (Option Event))
+    (first : Option Event)
     → AreLeft events (o ∷ rest) due → IsFirstOfAll due first → comes_by_ticket first o.call ≡ false → GivesCall events o rest due
 gives_call [] o rest due first left is_first not_by = let none = left.calls in cc
 gives_call (e ∷ later) o rest due first left is_first not_by = pick (is_call e.what) refl
   where
-    late : (f : Option Event) → IsFirstOfAll due f → comes_by_ticket f o.call ≡ false → get_or due e.thread None ≡ Some e → e.ticket < o.call → ⊥
+    late : (f : Option Event) → IsFirstOfAll due f → comes_by_ticket f o.call ≡ false
+        → get_or due e.thread None ≡ Some e → e.ticket < o.call → ⊥
     late f is' not_by' at above = grind (arith, nat_tests)
 
     pick : (called : Bool) → is_call e.what ≡ called → GivesCall (e ∷ later) o rest due
@@ -299,14 +325,17 @@ gives_call (e ∷ later) o rest due first left is_first not_by = pick (is_call e
         }
 
 -- if a due return comes before the first call, it is the first event
-pub record GivesReturn (events : List Event) (r : Event) (by_call : List Operation) (due : List (Option Event)) : Type 0 where
+pub record GivesReturn (events : List Event) (r : Event) (by_call : List Operation)
+    (due : List (Option Event)) : Type 0 where
   pub later : List Event
   pub is : events ≡ r ∷ later
   pub thread : r.thread ≤ MAX_THREAD
   pub left : AreLeft later by_call (set due r.thread None)
 
-pub gives_return : (events : List Event) (by_call : List Operation) (due : List (Option Event)) (r : Event) → AreLeft events by_call due
-    → IsFirstOfAll due (Some r) → ((o : Operation) (rest : List Operation) → by_call ≡ o ∷ rest → comes_by_ticket (Some r) o.call ≡ true)
+pub gives_return : (events : List Event) (by_call : List Operation) (due : List (Option Event)) (r : Event)
+    → AreLeft events by_call due
+    → IsFirstOfAll due (Some r)
+    → ((o : Operation) (rest : List Operation) → by_call ≡ o ∷ rest → comes_by_ticket (Some r) o.call ≡ true)
     → GivesReturn events r by_call due
 gives_return [] by_call due r left first by = grind (arith, nat_tests, common_steps, due_at)
 gives_return (e ∷ later) by_call due r left first by = pick (is_call e.what) refl
@@ -335,7 +364,8 @@ gives_return (e ∷ later) by_call due r left first by = pick (is_call e.what) r
         }
 
 -- if no call comes before a due return, and none is due, no event is left
-pub gives_nothing : (events : List Event) (by_call : List Operation) (due : List (Option Event)) → AreLeft events by_call due → IsFirstOfAll due None
+pub gives_nothing : (events : List Event) (by_call : List Operation) (due : List (Option Event))
+    → AreLeft events by_call due → IsFirstOfAll due None
     → ((o : Operation) (rest : List Operation) → by_call ≡ o ∷ rest → comes_by_ticket None o.call ≡ true) → events ≡ []
 gives_nothing [] by_call due left none by = refl
 gives_nothing (e ∷ later) by_call due left none by = pick (is_call e.what) refl
@@ -345,26 +375,31 @@ gives_nothing (e ∷ later) by_call due left none by = pick (is_call e.what) ref
     pick false returns = let some = due_first e later by_call due left returns in let nothing = none e.thread in cc
 
 -- the events left after a call, by the number of its thread and its return
-pub left_after_call : (events : List Event) (o : Operation) (rest : List Operation) (due : List (Option Event)) (given : GivesCall events o rest due)
+pub left_after_call : (events : List Event) (o : Operation) (rest : List Operation) (due : List (Option Event))
+    (given : GivesCall events o rest due)
     (t : ℕ) (p : Option Event) → t ≡ o.thread → p ≡ maybe_return o → AreLeft given.later rest (set due t p)
 left_after_call events o rest due given t p own returned = grind arith
 
 -- the events left after a return
-pub left_after_return : (events : List Event) (r : Event) (by_call : List Operation) (due : List (Option Event)) (given : GivesReturn events r by_call due)
+pub left_after_return : (events : List Event) (r : Event) (by_call : List Operation) (due : List (Option Event))
+    (given : GivesReturn events r by_call due)
     (t : ℕ) → t ≡ r.thread → AreLeft given.later by_call (set due t None)
 left_after_return events r by_call due given t own = subst (λ n. AreLeft given.later by_call (set due n None)) (sym own) given.left
 
 -- the events left are determined by the operations and the due returns
-pub left_as_told : (events : List Event) (by_call : List Operation) (due : List (Option Event)) → AreLeft events by_call due
+pub left_as_told : (events : List Event) (by_call : List Operation) (due : List (Option Event))
+    → AreLeft events by_call due
     → AreLeft (put_each due (events_of by_call)) by_call due
 left_as_told events by_call due left = subst (λ xs. AreLeft xs by_call due) (sym (told events by_call due left)) left
 
 -- a thread in which no return is due has none later, unless one is set for it
-pub still_none : (due : List (Option Event)) (n t k : ℕ) (p : Option Event) → ((thread : ℕ) → n ≤ thread → get_or due thread None ≡ None) → n ≤ k → k ≢ t
+pub still_none : (due : List (Option Event)) (n t k : ℕ) (p : Option Event)
+    → ((thread : ℕ) → n ≤ thread → get_or due thread None ≡ None) → n ≤ k → k ≢ t
     → get_or (set due t p) k None ≡ None
 still_none due n t k p none past apart = rw (get_or-set_other due t k p None apart) (none k past)
 
-pub stays_none : (due : List (Option Event)) (t k : ℕ) → get_or due k None ≡ None → get_or (set due t None) k None ≡ None
+pub stays_none : (due : List (Option Event)) (t k : ℕ) → get_or due k None ≡ None
+    → get_or (set due t None) k None ≡ None
 stays_none due t k none = grind (arith, cases_eq, set_none, get_or-set_other)
 
 -- ---- the number of events
@@ -378,7 +413,8 @@ abbrev pub has_returned : Operation → Bool
 has_returned o = not (nat_eq o.ret 0)
 
 -- there is a call for each operation, and a return for each that isn't pending
-pub length-events_of : (operations : List Operation) → length (events_of operations) ≡ length operations + count_by has_returned operations
+pub length-events_of : (operations : List Operation)
+    → length (events_of operations) ≡ length operations + count_by has_returned operations
 length-events_of [] = refl
 length-events_of (o ∷ later) = grind (arith, nat_tests, common_steps, sum_by-cons, length-put, length-events_of later)
 
@@ -389,7 +425,8 @@ first_is_call e [] turns = elim turns [ ]
 first_is_call e (a ∷ rest) turns = answered_is_call e.what a.what turns.0
 
 -- in a list that takes turns, each event follows the one before in turn
-follows_in_turns : (before : List Event) (e next : Event) (rest : List Event) → TakesTurns (before ++ e ∷ next ∷ rest) → FollowsInTurn e next
+follows_in_turns : (before : List Event) (e next : Event) (rest : List Event) → TakesTurns (before ++ e ∷ next ∷ rest)
+    → FollowsInTurn e next
 follows_in_turns [] e next rest turns = grind (arith, turns.0)
 follows_in_turns (c ∷ []) e next rest turns = grind (arith, turns.0, first_is_call next rest turns.1)
 follows_in_turns (c ∷ a ∷ before) e next rest turns = follows_in_turns before e next rest turns.1
@@ -434,12 +471,14 @@ pub run_of : (events : List Event) → TicketsRise events → All (λ e. e.threa
 run_of events rise threads turns = assumption (in_turn [] events turns, none_due events turns)
 
 -- at the beginning all events are left, and no return is due
-pub all_left : (events : List Event) (operations : List Operation) (due : List (Option Event)) → IsRunOf events operations
+pub all_left : (events : List Event) (operations : List Operation) (due : List (Option Event))
+    → IsRunOf events operations
     → length due ≡ MAX_THREAD + 1 → ((k : ℕ) → get_or due k None ≡ None) → AreLeft events operations due
 all_left events operations due is long none = grind arith
 
 -- the operations of a run determine its events
-pub told_of_run : (events : List Event) (operations : List Operation) → IsRunOf events operations → events_of operations ≡ events
+pub told_of_run : (events : List Event) (operations : List Operation) → IsRunOf events operations
+    → events_of operations ≡ events
 told_of_run events operations is =
     let none : List (Option Event) = replicate (MAX_THREAD + 1) None in
     let nothing = nothing_at (MAX_THREAD + 1) in

@@ -3,13 +3,15 @@ use Rattle.history_merge.proofs.Common.{[], All, All-append, All-cons, All-conta
 use Rattle.history_merge.proofs.Common.{AllPairs, AllPairs-cons, ap, append-nil, AreApart}
 use Rattle.history_merge.proofs.Common.{AreComplete, AreDistinct, arith, called_value, called_values, cases_eq}
 use Rattle.history_merge.proofs.Common.{common_steps, Contains, Contains-get_or, Contains-permutation, Dequeue, drop}
-use Rattle.history_merge.proofs.Common.{drop-append_seam, earlier_by, DequeueEmpty, Enqueue, enqueue_at, enqueued_value}
+use Rattle.history_merge.proofs.Common.{drop-append_seam, earlier_by, DequeueEmpty, Enqueue, enqueue_at}
+use Rattle.history_merge.proofs.Common.{enqueued_value}
 use Rattle.history_merge.proofs.Common.{enqueues_from, Event, get_or, get_or-drop, get_or-map, initial_enqueues, inl}
 use Rattle.history_merge.proofs.Common.{inr, IsAccepted, IsCompleteFrom, IsLegalOrder, IsLinearizable, IsPermutation}
 use Rattle.history_merge.proofs.Common.{IsPermutation-cons, IsPermutation-map, IsPermutation-refl}
 use Rattle.history_merge.proofs.Common.{IsPermutation-remove, IsPermutation-sym, IsPermutation-trans, IsTimed}
 use Rattle.history_merge.proofs.Common.{IsTimeline, kind_of, later_by, length, length-map, map, map-append, map-set}
-use Rattle.history_merge.proofs.Common.{map_fixed, MAX_INITIAL, nat_tests, EnqueueFailed, OnErr, OnOk, Operation, operations_of}
+use Rattle.history_merge.proofs.Common.{map_fixed, MAX_INITIAL, nat_tests, EnqueueFailed, OnErr, OnOk, Operation}
+use Rattle.history_merge.proofs.Common.{operations_of}
 use Rattle.history_merge.proofs.Common.{operations_on, OpKind, ORIGIN, Precedes, refl, remove, same_Some, set}
 use Rattle.history_merge.proofs.Common.{set-append_right, slice_get, slice_get-map, Some, subst, suc, sum_by}
 use Rattle.history_merge.proofs.Common.{sum_by-cons, sum_by-IsPermutation, sym, take, take_more, timeline, What, zero}
@@ -58,7 +60,8 @@ legal_later n queue operations order =
     legal_moved (later_by n) queue operations order (map_map (later_by n) (λ o. o.kind)) (λ x y precedes. omega (arith, precedes))
 
 -- a linearization of operations moved later is a linearization moved later
-pub legal_earlier : (n : ℕ) (queue : List ℕ) (operations found : List Operation) → IsLegalOrder queue (map (later_by n) operations) found
+pub legal_earlier : (n : ℕ) (queue : List ℕ) (operations found : List Operation)
+    → IsLegalOrder queue (map (later_by n) operations) found
     → (order : List Operation) × (found ≡ map (later_by n) order) × IsLegalOrder queue operations order
 legal_earlier n queue operations found legal = (
   map (earlier_by n) found,
@@ -80,7 +83,8 @@ length_enqueues n [] = refl
 length_enqueues n (v ∷ rest) = ap suc (length_enqueues (n + 1) rest)
 
 -- the length of a timeline
-pub length_timeline : (initial : List ℕ) (operations : List Operation) → length (timeline initial operations) ≡ length initial + length operations
+pub length_timeline : (initial : List ℕ) (operations : List Operation)
+    → length (timeline initial operations) ≡ length initial + length operations
 length_timeline initial operations = grind (arith, length_enqueues, length-append, length-map)
 
 -- the operations come after the enqueues, at their times
@@ -94,13 +98,15 @@ pub operations_back : (initial : List ℕ) (all operations : List Operation) →
 operations_back initial all operations is = grind (arith, behind_enqueues, all_back)
 
 -- no operation of the timeline comes before the first ticket
-pub all_late : (n : ℕ) (operations late : List Operation) → late ≡ map (later_by n) operations → All (λ o. (n ≤ o.call) × (n ≤ o.ret)) late
+pub all_late : (n : ℕ) (operations late : List Operation) → late ≡ map (later_by n) operations
+    → All (λ o. (n ≤ o.call) × (n ≤ o.ret)) late
 all_late n operations late is =
     subst (All (λ o. (n ≤ o.call) × (n ≤ o.ret))) (sym is)
     (All-map (λ o. (n ≤ o.call) × (n ≤ o.ret)) (later_by n) operations (λ k d below. (omega arith, omega arith)))
 
 -- a list that is a timeline is that of its own operations
-pub is_timeline : (initial : List ℕ) (all operations : List Operation) → length initial ≤ MAX_INITIAL → all ≡ timeline initial operations → IsTimeline initial all
+pub is_timeline : (initial : List ℕ) (all operations : List Operation) → length initial ≤ MAX_INITIAL
+    → all ≡ timeline initial operations → IsTimeline initial all
 is_timeline initial all operations few is = record { few = few; is = is ∙ ap (timeline initial) (sym (operations_back initial all operations is)) }
 
 -- ---- one more value or operation
@@ -112,7 +118,8 @@ enqueues_push time (w ∷ values) v = grind (arith, enqueues_push (time + 1) val
 
 -- one more value
 pub enqueues_more : (time : ℕ) (values : List ℕ) (i : ℕ) → i < length values
-    → enqueues_from time (take (i + 1) values) ≡ enqueues_from time (take i values) ++ enqueue_at (time + i) (get_or values i 0) ∷ []
+    → enqueues_from time (take (i + 1) values) ≡ enqueues_from time (take i values)
+    ++ enqueue_at (time + i) (get_or values i 0) ∷ []
 enqueues_more time values i below = grind (arith, nat_tests, common_steps, length-take-le, take_more, enqueues_push)
 
 -- one more operation
@@ -122,7 +129,8 @@ timeline_push initial operations o = grind (arith, append_assoc, map-append)
 
 -- one operation replaced by another
 pub timeline_set : (initial : List ℕ) (operations : List Operation) (place : ℕ) (o : Operation)
-    → set (timeline initial operations) (length initial + place) (later_by ORIGIN o) ≡ timeline initial (set operations place o)
+    → set (timeline initial operations) (length initial + place) (later_by ORIGIN o)
+    ≡ timeline initial (set operations place o)
 timeline_set initial operations place o =
     let n = ORIGIN in
     let front = initial_enqueues initial in
@@ -131,19 +139,22 @@ timeline_set initial operations place o =
     ∙ ap (λ os. front ++ os) (sym (map-set (later_by n) operations place o))
 
 -- an operation after the enqueues is one of the operations, moved later
-pub later_at : (n : ℕ) (operations : List Operation) (place : ℕ) (later : Operation) → slice_get (map (later_by n) operations) place ≡ Some later
+pub later_at : (n : ℕ) (operations : List Operation) (place : ℕ) (later : Operation)
+    → slice_get (map (later_by n) operations) place ≡ Some later
     → (o : Operation) × (slice_get operations place ≡ Some o) × (later_by n o ≡ later)
 later_at n operations place later at = grind (arith, slice_get-map)
 
 -- ---- pushing and completing
 
 -- a push adds one operation, or leaves the list
-pub pushed : {T E : Type 0} (r : Result T E) (old new more : List Operation) → OnOk r (new ≡ more) → OnErr r (new ≡ old) → (new ≡ more) ⊎ (new ≡ old)
+pub pushed : {T E : Type 0} (r : Result T E) (old new more : List Operation) → OnOk r (new ≡ more)
+    → OnErr r (new ≡ old) → (new ≡ more) ⊎ (new ≡ old)
 pushed (Ok t) old new more added kept = inl added
 pushed (Err e) old new more added kept = inr kept
 
 -- the operation at a place is completed
-pub completed : (initial : List ℕ) (all own : List Operation) (place ret : ℕ) (kind : OpKind) (d later : Operation) → all ≡ timeline initial own
+pub completed : (initial : List ℕ) (all own : List Operation) (place ret : ℕ) (kind : OpKind) (d later : Operation)
+    → all ≡ timeline initial own
     → place < length own → later ≡ get_or all (length initial + place) d
     → set all (length initial + place) (record later { ret = ret + ORIGIN; kind = kind })
     ≡ timeline initial (set own place (record (get_or own place d) { ret = ret; kind = kind }))
@@ -231,7 +242,8 @@ rest_permutes = cancelled operation_or_not
 
 -- each linearization begins with an enqueue that precedes all other operations, and continues from the queue with its
 -- value
-pub first_begins : (queue : List ℕ) (v : ℕ) (x : Operation) (others order : List Operation) → x.kind ≡ Enqueue v → All (Precedes x) others
+pub first_begins : (queue : List ℕ) (v : ℕ) (x : Operation) (others order : List Operation) → x.kind ≡ Enqueue v
+    → All (Precedes x) others
     → IsLegalOrder queue (x ∷ others) order
     → (rest : List Operation) × (order ≡ x ∷ rest) × IsLegalOrder (queue ++ v ∷ []) others rest
 first_begins queue v x others [] kind first legal =
@@ -263,7 +275,8 @@ first_begins queue v x others (h ∷ rest) kind first legal = (
     )
 
 -- an enqueue that no other operation precedes may come first
-pub first_put : (queue : List ℕ) (v : ℕ) (x : Operation) (others rest : List Operation) → x.kind ≡ Enqueue v → All (λ o. ¬ (Precedes o x)) others
+pub first_put : (queue : List ℕ) (v : ℕ) (x : Operation) (others rest : List Operation) → x.kind ≡ Enqueue v
+    → All (λ o. ¬ (Precedes o x)) others
     → IsLegalOrder (queue ++ v ∷ []) others rest → IsLegalOrder queue (x ∷ others) (x ∷ rest)
 first_put queue v x others rest kind none legal = record {
   holds_each_once = IsPermutation-cons x others rest legal.holds_each_once;
@@ -286,7 +299,8 @@ AreEnqueuesOf (v ∷ values) (x ∷ leading) = (x.kind ≡ Enqueue v) × AreEnqu
 
 -- each linearization begins with enqueues that precede all other operations in turn, and continues from the queue
 -- with their values
-pub enqueues_begin : (queue values : List ℕ) (leading others order : List Operation) → AreEnqueuesOf values leading → LeadAll leading others
+pub enqueues_begin : (queue values : List ℕ) (leading others order : List Operation) → AreEnqueuesOf values leading
+    → LeadAll leading others
     → IsLegalOrder queue (leading ++ others) order
     → (rest : List Operation) × (order ≡ leading ++ rest) × IsLegalOrder (queue ++ values) others rest
 enqueues_begin queue [] [] others order kinds lead legal = grind (arith, append-nil)
@@ -301,7 +315,8 @@ enqueues_begin queue (v ∷ values) (x ∷ leading) others order kinds lead lega
     )
 
 -- such enqueues may come first
-pub enqueues_put : (queue values : List ℕ) (leading others rest : List Operation) → AreEnqueuesOf values leading → LeadAll leading others
+pub enqueues_put : (queue values : List ℕ) (leading others rest : List Operation) → AreEnqueuesOf values leading
+    → LeadAll leading others
     → IsLegalOrder (queue ++ values) others rest → IsLegalOrder queue (leading ++ others) (leading ++ rest)
 enqueues_put queue [] [] others rest kinds lead legal = subst (λ q. IsLegalOrder q others rest) (append-nil queue) legal
 enqueues_put queue [] (x ∷ leading) others rest kinds lead legal = absurd kinds
@@ -362,7 +377,8 @@ module _ (initial : List ℕ) (operations : List Operation) (few : length initia
 abbrev CallsAmong : List ℕ → Operation → Type 0
 CallsAmong values o = (w : ℕ) → enqueued_value o.kind ≡ Some w → Contains values w
 
-what_was_called : (call answer : What) (kind : OpKind) (w : ℕ) → kind_of call answer ≡ Some kind → enqueued_value kind ≡ Some w
+what_was_called : (call answer : What) (kind : OpKind) (w : ℕ) → kind_of call answer ≡ Some kind
+    → enqueued_value kind ≡ Some w
     → called_value call ≡ Some w
 what_was_called call answer kind w is called = grind arith
 
@@ -384,8 +400,10 @@ all_among time n (v ∷ values) calls operations among =
     (suc rest.0, omega (arith, rest.1), rest.2))
 
 -- the initial enqueues are apart from one another and from later operations, which are apart too
-apart_from : (time n : ℕ) (values calls : List ℕ) (operations : List Operation) → time + length values ≤ n → AreDistinct (values ++ calls)
-    → All (CallsAmong calls) operations → AllPairs AreApart operations → AllPairs AreApart (enqueues_from time values ++ map (later_by n) operations)
+apart_from : (time n : ℕ) (values calls : List ℕ) (operations : List Operation) → time + length values ≤ n
+    → AreDistinct (values ++ calls)
+    → All (CallsAmong calls) operations → AllPairs AreApart operations
+    → AllPairs AreApart (enqueues_from time values ++ map (later_by n) operations)
 apart_from time n [] calls operations after distinct among apart = pairs_map AreApart (later_by n) operations
     (λ i j d below within. let a = apart i j d below within in record {
       called_first = omega (arith, a.called_first);
@@ -411,12 +429,14 @@ apart_from time n (v ∷ values) calls operations after distinct among apart =
     among apart)
 
 -- the initial enqueues are within the times before the first ticket
-enqueues_timed : (time : ℕ) (values : List ℕ) → 0 < time → time + length values ≤ ORIGIN → All IsTimed (enqueues_from time values)
+enqueues_timed : (time : ℕ) (values : List ℕ) → 0 < time → time + length values ≤ ORIGIN
+    → All IsTimed (enqueues_from time values)
 enqueues_timed time [] above within = All-nil IsTimed
 enqueues_timed time (v ∷ values) above within = grind (arith, All-cons, enqueues_timed (time + 1) values)
 
 -- the timeline is complete
-pub timeline_is_complete : (initial : List ℕ) (events : List Event) → IsCompleteFrom initial events → length initial ≤ MAX_INITIAL
+pub timeline_is_complete : (initial : List ℕ) (events : List Event) → IsCompleteFrom initial events
+    → length initial ≤ MAX_INITIAL
     → AreComplete (timeline initial (operations_of events))
 timeline_is_complete initial events whole few = record {
   timed = All-append IsTimed (initial_enqueues initial) (map (later_by ORIGIN) (operations_of events))

@@ -41,7 +41,8 @@ none_below gap x (y ∷ ys) up above =
     count_above gap x (y ∷ ys) above ∙ none_below gap y ys (rest_in_order x (y ∷ ys) up) (omega arith)
 
 -- if the ticket at a place is below, so are those before it
-pub at_least : (gap : ℕ) (xs : List ℕ) (i : ℕ) → IsNonDecreasing xs → i < length xs → get_or xs i 0 < gap → i + 1 ≤ count_before gap xs
+pub at_least : (gap : ℕ) (xs : List ℕ) (i : ℕ) → IsNonDecreasing xs → i < length xs → get_or xs i 0 < gap
+    → i + 1 ≤ count_before gap xs
 at_least gap [] i up within below = absurd (omega arith)
 at_least gap (x ∷ xs) zero up within below = omega (arith, count_below_more gap x xs below)
 at_least gap (x ∷ xs) (suc i) up within below =
@@ -98,8 +99,10 @@ most_so_far first arrivals departures = record {
 }
 
 -- one more arrival
-pub one_comes : (first : ℕ) (arrivals departures : List ℕ) (place most gone new_gone : ℕ) → IsNonDecreasing arrivals → place < length arrivals
-    → IsMostSoFar first arrivals departures place most gone → new_gone ≡ count_before (get_or arrivals place 0 + 1) departures
+pub one_comes : (first : ℕ) (arrivals departures : List ℕ) (place most gone new_gone : ℕ) → IsNonDecreasing arrivals
+    → place < length arrivals
+    → IsMostSoFar first arrivals departures place most gone
+    → new_gone ≡ count_before (get_or arrivals place 0 + 1) departures
     → IsMostSoFar first arrivals departures (place + 1) (max most (first + place + 1 - new_gone)) new_gone
 one_comes first arrivals departures place most gone new_gone up within so_far is = elim (cases_lt most (first + place + 1 - new_gone)) [
   | inl more ↦ record { gap = get_or arrivals place 0 + 1; reached = omega (arith, here); bound = bound; few_gone = few_gone }
@@ -109,19 +112,22 @@ one_comes first arrivals departures place most gone new_gone up within so_far is
     here : first + place + 1 - new_gone ≤ there_at first arrivals departures (get_or arrivals place 0 + 1)
     here = let came = at_least (get_or arrivals place 0 + 1) arrivals place up within (omega arith) in omega (arith, came, is)
 
-    bound : (gap : ℕ) → count_before gap arrivals ≤ place + 1 → there_at first arrivals departures gap ≤ max most (first + place + 1 - new_gone)
+    bound : (gap : ℕ) → count_before gap arrivals ≤ place + 1
+        → there_at first arrivals departures gap ≤ max most (first + place + 1 - new_gone)
     bound gap few = elim (cases_lt place (count_before gap arrivals)) [
       | inr fewer ↦ omega (arith, so_far.bound gap fewer)
       | inl last ↦ omega (arith, below_at gap arrivals place up last, count_rises (get_or arrivals place 0 + 1) gap departures, is, few)
     ]
 
-    few_gone : (k : ℕ) → place + 1 ≤ k → k < length arrivals → new_gone ≤ count_before (get_or arrivals k 0 + 1) departures
+    few_gone : (k : ℕ) → place + 1 ≤ k → k < length arrivals
+        → new_gone ≤ count_before (get_or arrivals k 0 + 1) departures
     few_gone k from below =
         let later = up place k 0 (omega arith) below in
         omega (arith, count_rises (get_or arrivals place 0 + 1) (get_or arrivals k 0 + 1) departures (omega arith), is)
 
 -- after all arrivals it is the maximum
-pub most_of_all : (first : ℕ) (arrivals departures : List ℕ) (place most gone : ℕ) → length arrivals ≤ place → IsMostSoFar first arrivals departures place most gone
+pub most_of_all : (first : ℕ) (arrivals departures : List ℕ) (place most gone : ℕ) → length arrivals ≤ place
+    → IsMostSoFar first arrivals departures place most gone
     → IsMost (there_at first arrivals departures) most
 most_of_all first arrivals departures place most gone all so_far =
     let within : (gap : ℕ) → count_before gap arrivals ≤ place = λ gap. let few = count_few gap arrivals in omega arith in
@@ -145,7 +151,8 @@ one_most f a b x y =
     let under = y.bound x.gap in let over = x.bound y.gap in let at = x.reached in let at_other = y.reached in omega arith
 
 -- permuted tickets have the same maximum
-pub most_permuted : (first most : ℕ) (arrivals arrivals' departures departures' : List ℕ) → IsPermutation arrivals arrivals' → IsPermutation departures departures'
+pub most_permuted : (first most : ℕ) (arrivals arrivals' departures departures' : List ℕ)
+    → IsPermutation arrivals arrivals' → IsPermutation departures departures'
     → IsMost (there_at first arrivals' departures') most → IsMost (there_at first arrivals departures) most
 most_permuted first most arrivals arrivals' departures departures' came went is =
     same_most (there_at first arrivals' departures') (there_at first arrivals departures) most
@@ -156,7 +163,8 @@ most_permuted first most arrivals arrivals' departures departures' came went is 
 
 -- the operations pending are those called that haven't returned
 pub pending_is : (gap : ℕ) (operations : List Operation) → All (λ o. o.call < o.ret) operations
-    → pending_at operations gap + count_before gap (map (λ o. o.ret) operations) ≡ count_before gap (map (λ o. o.call) operations)
+    → pending_at operations gap + count_before gap (map (λ o. o.ret) operations)
+    ≡ count_before gap (map (λ o. o.call) operations)
 pending_is gap [] forward = refl
 pending_is gap (o ∷ rest) forward =
     let here = All-head (λ (o : Operation). o.call < o.ret) o rest forward in
@@ -167,12 +175,15 @@ pending_is gap (o ∷ rest) forward =
     let one = one_pends gap o.call o.ret here in
     omega (arith, pends, departures, arrivals, more, one)
   where
-    one_pends : (gap call ret : ℕ) → call < ret → cond (nat_lt call gap && not (nat_lt ret gap)) 1 0 + cond (nat_lt ret gap) 1 0 ≡ cond (nat_lt call gap) 1 0
+    one_pends : (gap call ret : ℕ) → call < ret
+        → cond (nat_lt call gap && not (nat_lt ret gap)) 1 0 + cond (nat_lt ret gap) 1 0 ≡ cond (nat_lt call gap) 1 0
     one_pends gap call ret here = grind (arith, nat_tests)
 
 -- so the maximum pending is that of arrivals at calls and departures at returns
-pub most_pending_is : (operations : List Operation) (calls returns : List ℕ) (most : ℕ) → All (λ o. o.call < o.ret) operations
-    → calls ≡ map (λ o. o.call) operations → returns ≡ map (λ o. o.ret) operations → IsMost (there_at 0 calls returns) most
+pub most_pending_is : (operations : List Operation) (calls returns : List ℕ) (most : ℕ)
+    → All (λ o. o.call < o.ret) operations
+    → calls ≡ map (λ o. o.call) operations → returns ≡ map (λ o. o.ret) operations
+    → IsMost (there_at 0 calls returns) most
     → IsMost (pending_at operations) most
 most_pending_is operations calls returns most forward are_calls are_returns is =
     same_most (there_at 0 calls returns) (pending_at operations) most
@@ -187,13 +198,15 @@ one_goes false = refl
 
 -- one more initial value
 pub value_more : (departures : ℕ → Bool) (values : List ℕ) (i gone new_gone base : ℕ) (d : ℕ) → i < length values
-    → count_by (λ v. not (departures v)) (take i values) + gone ≡ i + base → new_gone ≡ gone + cond (departures (get_or values i d)) 1 0
+    → count_by (λ v. not (departures v)) (take i values) + gone ≡ i + base
+    → new_gone ≡ gone + cond (departures (get_or values i d)) 1 0
     → count_by (λ v. not (departures v)) (take (i + 1) values) + new_gone ≡ i + 1 + base
 value_more departures values i gone new_gone base d within so_far is =
     omega (arith, so_far, is, sum_by_more (λ v. cond (not (departures v)) 1 0) values i d within, one_goes (departures (get_or values i d)))
 
 -- the maximum number of values that stayed is that of arrivals and departures
-pub most_queued_is : (initial : List ℕ) (operations : List Operation) (goes_before : ℕ → ℕ → Bool) (arrivals first_goes departures : List ℕ) (most : ℕ)
+pub most_queued_is : (initial : List ℕ) (operations : List Operation)
+    (goes_before : ℕ → ℕ → Bool) (arrivals first_goes departures : List ℕ) (most : ℕ)
     → ((gap v : ℕ) → goes_before gap v ≡ is_taken_before gap operations v)
     → ((gap : ℕ) → count_by (λ v. not (goes_before gap v)) initial + count_before gap first_goes ≡ length initial + count_before gap [])
     → ((gap : ℕ) → count_by (λ v. not (goes_before gap v)) (values_put_before gap operations) + count_before gap departures + count_before gap []
@@ -203,10 +216,12 @@ pub most_queued_is : (initial : List ℕ) (operations : List Operation) (goes_be
 most_queued_is initial operations goes_before arrivals first_goes departures most same firsts puts is =
     same_most (there_at (length initial) arrivals departures) (λ gap. stay_count gap operations (initial ++ values_put_before gap operations)) most there is
   where
-    alike : (gap : ℕ) (values : List ℕ) → count_by (λ v. not (goes_before gap v)) values ≡ stay_count gap operations values
+    alike : (gap : ℕ) (values : List ℕ)
+        → count_by (λ v. not (goes_before gap v)) values ≡ stay_count gap operations values
     alike gap values = λ i. count_by (λ v. not (same gap v i)) values
 
-    there : (gap : ℕ) → there_at (length initial) arrivals departures gap ≡ stay_count gap operations (initial ++ values_put_before gap operations)
+    there : (gap : ℕ) → there_at (length initial) arrivals departures gap
+        ≡ stay_count gap operations (initial ++ values_put_before gap operations)
     there gap =
         let both = sum_by-append (λ v. cond (not (is_taken_before gap operations v)) 1 0) initial (values_put_before gap operations) in
         let one = firsts gap in
@@ -217,7 +232,8 @@ most_queued_is initial operations goes_before arrivals first_goes departures mos
 
 -- the end of those below a gap, if they come first
 pub count_is_place : (gap place : ℕ) (tickets : List ℕ) → place ≤ length tickets
-    → IsPartitionPoint (λ t. nat_lt t gap ≡ true) (λ t. nat_lt t gap ≡ false) tickets place → place ≡ count_before gap tickets
+    → IsPartitionPoint (λ t. nat_lt t gap ≡ true) (λ t. nat_lt t gap ≡ false) tickets place
+    → place ≡ count_before gap tickets
 count_is_place gap zero [] within cut = refl
 count_is_place gap (suc place) [] within cut = absurd (omega arith)
 count_is_place gap zero (x ∷ xs) within cut =
@@ -234,7 +250,8 @@ count_is_place gap (suc place) (x ∷ xs) within cut =
 
 -- the end of those up to a ticket, if they come first
 pub count_by_place : (ticket place : ℕ) (tickets : List ℕ) → place ≤ length tickets
-    → IsPartitionPoint (λ t. nat_le t ticket ≡ true) (λ t. nat_le t ticket ≡ false) tickets place → place ≡ count_before (ticket + 1) tickets
+    → IsPartitionPoint (λ t. nat_le t ticket ≡ true) (λ t. nat_le t ticket ≡ false) tickets place
+    → place ≡ count_before (ticket + 1) tickets
 count_by_place ticket place tickets within cut = count_is_place (ticket + 1) place tickets within
     (λ k d above below. sym (same (get_or tickets k d)) ∙ cut.0 k d above below, λ k d above below. sym (same (get_or tickets k d)) ∙ cut.1 k d above below)
   where

@@ -1,9 +1,11 @@
 -- Numbers counted in blocks: the block of a number, the effect of a new number, and how many are below a given one.
-use Rattle.std.proofs.Common.{◌≡◌, ℕ, zero, suc, ◌+◌, ◌-◌, ◌<◌, ◌≤◌, ◌++◌, List, [], ◌∷◌, length, get_or, cond, refl, sym, ◌∙◌, ap, Bool, true, false}
+use Rattle.std.proofs.Common.{◌≡◌, ℕ, zero, suc, ◌+◌, ◌-◌, ◌<◌, ◌≤◌, ◌++◌, List, [], ◌∷◌, length, get_or, cond, refl}
+use Rattle.std.proofs.Common.{sym, ◌∙◌, ap, Bool, true, false}
 use Rattle.std.proofs.Common.{inl, inr, arith, ◌⊎◌, ◌≢◌}
 use Rattle.std.proofs.Math.ListN.{set, length-set, get_or-eq_default}
 use Rattle.std.proofs.Math.Seq.{get_or-append_seam}
-use Rattle.std.proofs.lemmas.List.{length_push, length-replicate, get_or-replicate, get_or_append_left, get_or-set_same, get_or-set_other}
+use Rattle.std.proofs.lemmas.List.{length_push, length-replicate, get_or-replicate, get_or_append_left}
+use Rattle.std.proofs.lemmas.List.{get_or-set_same, get_or-set_other}
 use Rattle.std.specs.Prelude.{replicate, ◌/◌, ◌%◌, count_by, nat_eq, nat_lt}
 use Rattle.std.proofs.lemmas.Bool.{cases_eq, cases_lt, eq-eqb, le-ltb, ne_eqb}
 use Rattle.std.proofs.lemmas.Bool.Decides.{nat_tests}
@@ -27,7 +29,8 @@ halved_more x k = let next : k + 1 ≡ suc k = omega arith in ap (halved x) next
 -- ---- numbers below a block
 
 -- below an odd block are the block before it, and those below its half
-below_odd : (a b : ℕ) → b % 2 ≡ 1 → cond (nat_lt a b) 1 0 ≡ cond (nat_eq a (b - 1)) 1 0 + cond (nat_lt (a / 2) (b / 2)) 1 0
+below_odd : (a b : ℕ) → b % 2 ≡ 1
+    → cond (nat_lt a b) 1 0 ≡ cond (nat_eq a (b - 1)) 1 0 + cond (nat_lt (a / 2) (b / 2)) 1 0
 below_odd a b odd = grind (arith, nat_tests)
 
 -- below an even block are those below its half
@@ -64,7 +67,8 @@ count_none_below k (x ∷ xs) = sum_by-cons (λ x. cond (nat_lt (halved x k) 0) 
 
 -- the next level counts the same by halves
 next_level : (level block next : ℕ) (numbers : List ℕ) → next ≡ block / 2
-    → count_by (λ x. nat_lt (halved x (level + 1)) next) numbers ≡ count_by (λ x. nat_lt (halved x level / 2) (block / 2)) numbers
+    → count_by (λ x. nat_lt (halved x (level + 1)) next) numbers
+    ≡ count_by (λ x. nat_lt (halved x level / 2) (block / 2)) numbers
 next_level level block next numbers halves = λ i. count_by (λ x. nat_lt (halved_more x level i) (halves i)) numbers
 
 -- ---- one more number
@@ -74,7 +78,8 @@ pub record AddedBelow (number level block : ℕ) (before now : List (List ℕ)) 
   pub same : length now ≡ length before
   pub here : block ≡ halved number level
   pub sizes : (k : ℕ) → length (get_or now k []) ≡ length (get_or before k [])
-  pub done : (k j : ℕ) → k < level → get_or (get_or now k []) j 0 ≡ get_or (get_or before k []) j 0 + cond (nat_eq (halved number k) j) 1 0
+  pub done : (k j : ℕ) → k < level
+      → get_or (get_or now k []) j 0 ≡ get_or (get_or before k []) j 0 + cond (nat_eq (halved number k) j) 1 0
   pub left : (k : ℕ) → level ≤ k → get_or now k [] ≡ get_or before k []
 
 -- a number with room has a block in each level
@@ -90,8 +95,10 @@ count_fits number level block levels room within =
     omega (arith, room.is_tally.counts level block within, count_by-le-length (λ x. nat_eq (halved x level) block) room.numbers, room.few)
 
 -- one more level has it added
-pub added_more : (number level block next : ℕ) (before now new : List (List ℕ)) → level < length now → block < length (get_or now level [])
-    → AddedBelow number level block before now → new ≡ set now level (set (get_or now level []) block (get_or (get_or now level []) block 0 + 1))
+pub added_more : (number level block next : ℕ) (before now new : List (List ℕ)) → level < length now
+    → block < length (get_or now level [])
+    → AddedBelow number level block before now
+    → new ≡ set now level (set (get_or now level []) block (get_or (get_or now level []) block 0 + 1))
     → next ≡ block / 2 → AddedBelow number (level + 1) next before new
 added_more number level block next before now new within fits was is halves = record {
   same = ap length is ∙ length-set now level _ ∙ was.same;
@@ -116,7 +123,8 @@ added_more number level block next before now new within fits was is halves = re
       | inr other ↦ ap length other.1 ∙ was.sizes k
     ]
 
-    changed_at : (j : ℕ) → get_or changed j 0 ≡ get_or (get_or before level []) j 0 + cond (nat_eq (halved number level) j) 1 0
+    changed_at : (j : ℕ) → get_or changed j 0
+        ≡ get_or (get_or before level []) j 0 + cond (nat_eq (halved number level) j) 1 0
     changed_at j = elim (cases_eq j block) [
       | inl same ↦
           ap (λ n. get_or changed n 0) same ∙ get_or-set_same (get_or now level []) block _ 0 fits
@@ -126,14 +134,16 @@ added_more number level block next before now new within fits was is halves = re
           ∙ omega (arith, ap (λ l. get_or l j 0) (was.left level (omega arith)), ap {B = ℕ} (λ b. cond b 1 0) (ne_eqb (halved number level) j (λ e. other (sym e ∙ sym was.here))))
     ]
 
-    done : (k j : ℕ) → k < level + 1 → get_or (get_or new k []) j 0 ≡ get_or (get_or before k []) j 0 + cond (nat_eq (halved number k) j) 1 0
+    done : (k j : ℕ) → k < level + 1
+        → get_or (get_or new k []) j 0 ≡ get_or (get_or before k []) j 0 + cond (nat_eq (halved number k) j) 1 0
     done k j below = elim (at k) [
       | inl same ↦ ap (λ l. get_or l j 0) same.1 ∙ changed_at j ∙ ap (λ n. get_or (get_or before n []) j 0 + cond (nat_eq (halved number n) j) 1 0) (sym same.0)
       | inr other ↦ ap (λ l. get_or l j 0) other.1 ∙ was.done k j (omega (arith, other.0))
     ]
 
 -- all levels have it added
-pub added_all : (limit number level block : ℕ) (numbers : List ℕ) (before now : List (List ℕ)) → length now ≤ level → AddedBelow number level block before now
+pub added_all : (limit number level block : ℕ) (numbers : List ℕ) (before now : List (List ℕ)) → length now ≤ level
+    → AddedBelow number level block before now
     → IsTally limit numbers before → IsTally limit (numbers ++ number ∷ []) now
 added_all limit number level block numbers before now all added is = record {
   has_levels = record { wide = λ k below. omega (arith, is.has_levels.wide k, added.sizes k, added.same); ends = ap (halved limit) added.same ∙ is.has_levels.ends };
@@ -150,8 +160,10 @@ pub record CountedBelow (number level block below : ℕ) (levels : List (List �
       → below + count_by (λ x. nat_lt (halved x level) block) numbers ≡ count_by (λ x. nat_lt x number) numbers
 
 -- with the block before an odd one, at most all numbers are counted
-pub count_in_all : (number level block below : ℕ) (levels : List (List ℕ)) → HasRoomFor number levels → level < length levels → block % 2 ≡ 1
-    → CountedBelow number level block below levels → below + get_or (get_or levels level []) (block - 1) 0 < 4611686018427387904
+pub count_in_all : (number level block below : ℕ) (levels : List (List ℕ)) → HasRoomFor number levels
+    → level < length levels → block % 2 ≡ 1
+    → CountedBelow number level block below levels
+    → below + get_or (get_or levels level []) (block - 1) 0 < 4611686018427387904
 count_in_all number level block below levels room within odd was = omega (
   arith,
   was.counted room.limit room.numbers room.is_tally,
@@ -162,7 +174,8 @@ count_in_all number level block below levels room within odd was = omega (
 )
 
 -- a level of an odd block adds the block before it
-pub below_more : (number level block below found next : ℕ) (levels : List (List ℕ)) → level < length levels → block % 2 ≡ 1 → next ≡ block / 2
+pub below_more : (number level block below found next : ℕ) (levels : List (List ℕ)) → level < length levels
+    → block % 2 ≡ 1 → next ≡ block / 2
     → found ≡ get_or (get_or levels level []) (block - 1) 0 → CountedBelow number level block below levels
     → CountedBelow number (level + 1) next (below + found) levels
 below_more number level block below found next levels within odd halves is was = record {
@@ -190,8 +203,10 @@ below_same number level block below next levels even halves was = record {
 }
 
 -- after all levels nothing is left
-pub below_all : (number level block below limit : ℕ) (numbers : List ℕ) (levels : List (List ℕ)) → length levels ≡ level → number ≤ limit
-    → CountedBelow number level block below levels → IsTally limit numbers levels → below ≡ count_by (λ x. nat_lt x number) numbers
+pub below_all : (number level block below limit : ℕ) (numbers : List ℕ) (levels : List (List ℕ))
+    → length levels ≡ level → number ≤ limit
+    → CountedBelow number level block below levels → IsTally limit numbers levels
+    → below ≡ count_by (λ x. nat_lt x number) numbers
 below_all number level block below limit numbers levels all within was tally =
     let none : block ≡ 0 = omega (arith, was.here, halved_rises number limit level within, ap (halved limit) all, tally.has_levels.ends) in
     omega (arith, was.counted limit numbers tally, count_none_below level numbers, ap (λ b. count_by (λ x. nat_lt (halved x level) b) numbers) none)
@@ -220,7 +235,8 @@ empty_more limit last next levels halves was = record {
   empty = empty;
 }
   where
-    at : (k : ℕ) → k < length (levels ++ replicate (last + 1) 0 ∷ []) → ((k < length levels) × (get_or (levels ++ replicate (last + 1) 0 ∷ []) k [] ≡ get_or levels k []))
+    at : (k : ℕ) → k < length (levels ++ replicate (last + 1) 0 ∷ [])
+        → ((k < length levels) × (get_or (levels ++ replicate (last + 1) 0 ∷ []) k [] ≡ get_or levels k []))
         ⊎ ((k ≡ length levels) × (get_or (levels ++ replicate (last + 1) 0 ∷ []) k [] ≡ replicate (last + 1) 0))
     at k below = elim (cases_lt k (length levels)) [
       | inl earlier ↦ inl (earlier, get_or_append_left levels (replicate (last + 1) 0 ∷ []) [] k earlier)
@@ -229,20 +245,23 @@ empty_more limit last next levels halves was = record {
           inr (is, ap (λ n. get_or (levels ++ replicate (last + 1) 0 ∷ []) n []) is ∙ get_or-append_seam levels (replicate (last + 1) 0) [] [])
     ]
 
-    wide : (k : ℕ) → k < length (levels ++ replicate (last + 1) 0 ∷ []) → halved limit k < length (get_or (levels ++ replicate (last + 1) 0 ∷ []) k [])
+    wide : (k : ℕ) → k < length (levels ++ replicate (last + 1) 0 ∷ [])
+        → halved limit k < length (get_or (levels ++ replicate (last + 1) 0 ∷ []) k [])
     wide k below = elim (at k below) [
       | inl earlier ↦ omega (arith, was.wide k earlier.0, ap length earlier.1)
       | inr here ↦ omega (arith, was.next, ap (halved limit) here.0, ap length here.1, length-replicate {A = ℕ} (last + 1) 0)
     ]
 
-    empty : (k j : ℕ) → k < length (levels ++ replicate (last + 1) 0 ∷ []) → get_or (get_or (levels ++ replicate (last + 1) 0 ∷ []) k []) j 0 ≡ 0
+    empty : (k j : ℕ) → k < length (levels ++ replicate (last + 1) 0 ∷ [])
+        → get_or (get_or (levels ++ replicate (last + 1) 0 ∷ []) k []) j 0 ≡ 0
     empty k j below = elim (at k below) [
       | inl earlier ↦ ap (λ l. get_or l j 0) earlier.1 ∙ was.empty k j earlier.0
       | inr here ↦ ap (λ l. get_or l j 0) here.1 ∙ zero_at (last + 1) j
     ]
 
 -- the last level has one block
-pub is_empty_tally : (limit last : ℕ) (levels : List (List ℕ)) → last ≡ 0 → HasEmptyLevels limit last levels → IsTally limit [] levels
+pub is_empty_tally : (limit last : ℕ) (levels : List (List ℕ)) → last ≡ 0 → HasEmptyLevels limit last levels
+    → IsTally limit [] levels
 is_empty_tally limit last levels none was = record {
   has_levels = record { wide = was.wide; ends = sym was.next ∙ none };
   counts = was.empty;

@@ -11,20 +11,23 @@ use Rattle.history_stats.specs.declared.statistics.Statistics.{Statistics}
 use Rattle.history_stats.proofs.AtOnce.{one_most}
 
 -- numbers have only one minimum of the maximum during a failed enqueue
-one_least : (operations : List Operation) (f : ℕ → ℕ) (a b : ℕ) → IsRefusedAt operations f a → IsRefusedAt operations f b → a ≡ b
+one_least : (operations : List Operation) (f : ℕ → ℕ) (a b : ℕ) → IsRefusedAt operations f a
+    → IsRefusedAt operations f b → a ≡ b
 one_least operations f a b x y =
     let under = x.at_each y.refusal y.is_refusal in
     let over = y.at_each x.refusal x.is_refusal in
     omega (arith, under.2, y.at_most under.0 under.1, over.2, x.at_most over.0 over.1)
 
-one_maybe : (operations : List Operation) (f : ℕ → ℕ) (a b : Option ℕ) → MatchOption a (NoRefusal operations) (IsRefusedAt operations f)
+one_maybe : (operations : List Operation) (f : ℕ → ℕ) (a b : Option ℕ)
+    → MatchOption a (NoRefusal operations) (IsRefusedAt operations f)
     → MatchOption b (NoRefusal operations) (IsRefusedAt operations f) → a ≡ b
 one_maybe operations f None None x y = refl
 one_maybe operations f None (Some b) x y = absurd (x y.refusal y.is_refusal)
 one_maybe operations f (Some a) None x y = absurd (y x.refusal x.is_refusal)
 one_maybe operations f (Some a) (Some b) x y = ap Some (one_least operations f a b x y)
 
-pub one_statistics : (history : HistoryView) (a b : Statistics) → AreStatisticsOf history a → AreStatisticsOf history b → a ≡ b
+pub one_statistics : (history : HistoryView) (a b : Statistics) → AreStatisticsOf history a → AreStatisticsOf history b
+    → a ≡ b
 one_statistics history a b x y =
     let pending = one_most (pending_at (operations_of history.events)) a.most_pending b.most_pending x.most_pending y.most_pending in
     let queued = one_most (queued_at history) a.most_queued b.most_queued x.most_queued y.most_queued in

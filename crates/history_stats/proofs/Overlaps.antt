@@ -17,7 +17,8 @@ use Rattle.history_merge.proofs.Lists.{All-right, pairs_back}
 -- ---- the parts of a list
 
 -- the operations after the first
-behind_first : (x : Operation) (rest : List Operation) → AllPairs (λ a b. a.call < b.call) (x ∷ rest) → All (λ o. x.call < o.call) rest
+behind_first : (x : Operation) (rest : List Operation) → AllPairs (λ a b. a.call < b.call) (x ∷ rest)
+    → All (λ o. x.call < o.call) rest
 behind_first x rest rise = All-from_get_or (λ (o : Operation). x.call < o.call) rest x (λ k below. rise zero (suc k) x (omega arith) (omega arith))
 
 -- ---- one operation and another one
@@ -42,7 +43,8 @@ any_alike p q (x ∷ xs) same =
     let more = any_alike p q xs (All-tail (λ z. p z ≡ q z) x xs same) in λ i. here i || more i
 
 -- if calls rise, an operation overlaps one of those before it if one of them returns at its call or later
-any_earlier : (earlier later : List Operation) (x : Operation) → AllPairs (λ a b. a.call < b.call) (earlier ++ x ∷ later) → x.call < x.ret
+any_earlier : (earlier later : List Operation) (x : Operation)
+    → AllPairs (λ a b. a.call < b.call) (earlier ++ x ∷ later) → x.call < x.ret
     → list_any (overlap x) earlier ≡ list_any (λ o. nat_le x.call o.ret) earlier
 any_earlier earlier later x rise forward = any_alike (overlap x) (λ (o : Operation). nat_le x.call o.ret) earlier (λ k d below.
     let rises = rise k (length earlier) d below (omega (arith, length-append earlier (x ∷ later))) in
@@ -59,12 +61,14 @@ first_decides ticket x (y ∷ rest) behind =
     let more = first_decides ticket x rest (All-tail (λ (o : Operation). x.call < o.call) y rest behind) in
     one x.call y.call ticket (list_any (λ (o : Operation). nat_le o.call ticket) rest) here more
   where
-    one : (a b t : ℕ) (c : Bool) → a < b → (nat_le a t || c) ≡ nat_le a t → (nat_le a t || (nat_le b t || c)) ≡ nat_le a t
+    one : (a b t : ℕ) (c : Bool) → a < b → (nat_le a t || c) ≡ nat_le a t
+        → (nat_le a t || (nat_le b t || c)) ≡ nat_le a t
     one a b t c lt e = grind (arith, nat_tests)
 
 -- the first operation, if there is one, decides whether one is called by a ticket
 pub called_by_first : (ticket : ℕ) (operations rest : List Operation) (x : Operation) → operations ≡ x ∷ rest
-    → AllPairs (λ a b. a.call < b.call) operations → nat_le x.call ticket ≡ list_any (λ o. nat_le o.call ticket) operations
+    → AllPairs (λ a b. a.call < b.call) operations
+    → nat_le x.call ticket ≡ list_any (λ o. nat_le o.call ticket) operations
 called_by_first ticket operations rest x is rise =
     sym (first_decides ticket x rest (behind_first x rest (subst (AllPairs (λ (a b : Operation). a.call < b.call)) is rise)))
     ∙ ap (list_any (λ (o : Operation). nat_le o.call ticket)) (sym is)
@@ -95,14 +99,16 @@ pub record Counted (all left : List Operation) (count last_return : ℕ) : Type 
   pub none : length seen ≡ 0 → last_return ≡ 0
 
 -- if calls rise, so do those of the operations after the next
-pub left_rise : (all old left : List Operation) (x : Operation) (count last_return : ℕ) → old ≡ x ∷ left → AllPairs (λ a b. a.call < b.call) all
+pub left_rise : (all old left : List Operation) (x : Operation) (count last_return : ℕ) → old ≡ x ∷ left
+    → AllPairs (λ a b. a.call < b.call) all
     → Counted all old count last_return → AllPairs (λ a b. a.call < b.call) left
 left_rise all old left x count last_return is rise was =
     pairs_back (λ (a b : Operation). a.call < b.call) (x ∷ []) left (subst (AllPairs (λ (a b : Operation). a.call < b.call)) is
     (pairs_back (λ (a b : Operation). a.call < b.call) was.seen old (subst (AllPairs (λ (a b : Operation). a.call < b.call)) (sym was.parts) rise)))
 
 -- one more operation has a return that may be the last
-last_more : (seen : List Operation) (x : Operation) (last next : ℕ) → IsLastReturn seen last → (length seen ≡ 0 → last ≡ 0) → next ≡ max last x.ret
+last_more : (seen : List Operation) (x : Operation) (last next : ℕ) → IsLastReturn seen last
+    → (length seen ≡ 0 → last ≡ 0) → next ≡ max last x.ret
     → IsLastReturn (seen ++ x ∷ []) next
 last_more seen x last next is none new = λ ticket.
     list_any-append (λ (o : Operation). nat_le ticket o.ret) seen (x ∷ []) ∙ ap (λ b. b || (nat_le ticket x.ret || false)) (is ticket)
@@ -114,7 +120,8 @@ last_more seen x last next is none new = λ ticket.
     both ticket (suc n) m first size = grind (arith, nat_tests)
 
 -- one more operation, which overlaps another one or doesn't, as those before it and after it show
-pub counted_more : (all old left : List Operation) (x : Operation) (count last next count' : ℕ) (has_earlier told : Bool) → old ≡ x ∷ left
+pub counted_more : (all old left : List Operation) (x : Operation) (count last next count' : ℕ)
+    (has_earlier told : Bool) → old ≡ x ∷ left
     → AllPairs (λ a b. a.call < b.call) all → All (λ o. o.call < o.ret) all → has_earlier ≡ nat_lt (length left + 1) (length all)
     → ((earlier : List Operation) → AllPairs (λ a b. a.call < b.call) (earlier ++ x ∷ left) → All (λ o. o.call < o.ret) (earlier ++ x ∷ left)
     → has_earlier ≡ nat_lt 0 (length earlier) → IsLastReturn earlier last → told ≡ list_any (overlap x) (earlier ++ x ∷ left))

@@ -1,11 +1,13 @@
 -- The number of values during failed enqueues: just after the call, and just after each arrival before the return.
-use Rattle.std.proofs.Common.{◌≡◌, ℕ, zero, suc, ◌+◌, ◌-◌, ◌<◌, ◌≤◌, ◌++◌, ◌∷◌, List, [], length, get_or, cond, refl, sym, ◌∙◌, ap, Bool, true, false}
+use Rattle.std.proofs.Common.{◌≡◌, ℕ, zero, suc, ◌+◌, ◌-◌, ◌<◌, ◌≤◌, ◌++◌, ◌∷◌, List, [], length, get_or, cond, refl}
+use Rattle.std.proofs.Common.{sym, ◌∙◌, ap, Bool, true, false}
 use Rattle.std.proofs.Common.{All, None, Option, Some, inl, inr, arith, nat_lt, not, subst, take, ◌⊎◌}
 use Rattle.std.specs.Prelude.{Contains, MatchOption, count_by, filter_map, nat_eq, nat_le, ◌&&◌, ◌||◌}
 use Rattle.std.specs.List.{cons_option, list_any}
 use Rattle.std.specs.List.Sorted.{IsNonDecreasing, IsPermutation}
 use Rattle.std.proofs.lemmas.List.Sorted.{sum_by-IsPermutation}
-use Rattle.std.proofs.lemmas.Bool.{cases_eq, cases_lt, eqb-true, eq-eqb, false≢true, le-leb, leb-true, lt-ltb, le-ltb, ltb-true}
+use Rattle.std.proofs.lemmas.Bool.{cases_eq, cases_lt, eqb-true, eq-eqb, false≢true, le-leb, leb-true, lt-ltb, le-ltb}
+use Rattle.std.proofs.lemmas.Bool.{ltb-true}
 use Rattle.std.proofs.lemmas.Bool.Decides.{nat_tests}
 use Rattle.std.proofs.lemmas.List.Elements.{All-cons}
 use Rattle.std.proofs.lemmas.List.Sums.{sum_by-append, sum_by-cons, sum_by_more}
@@ -13,7 +15,8 @@ use Rattle.std.proofs.Math.ListN.{set}
 use Rattle.std.proofs.lemmas.List.{get_or-set_other, get_or-set_same}
 use Rattle.history_merge.specs.declared.operation.Operation.{Operation}
 use Rattle.history_stats.specs.Counts.{is_refused}
-use Rattle.history_stats.specs.Refusing.{IsDuring, IsRefusal, IsRefusedAt, NoRefusal, is_gone_before, left_count, values_called_before}
+use Rattle.history_stats.specs.Refusing.{IsDuring, IsRefusal, IsRefusedAt, NoRefusal, is_gone_before, left_count}
+use Rattle.history_stats.specs.Refusing.{values_called_before}
 use Rattle.history_stats.specs.Inner.AtOnce.{count_before}
 use Rattle.history_stats.specs.Inner.Refusing.{AreHeights, count_above, stays_within, there_at, window_of, windows_of}
 use Rattle.history_stats.specs.declared.refused.Window.{Window}
@@ -22,7 +25,8 @@ use Rattle.history_stats.proofs.AtOnce.{at_least, below_at, count_few, count_ris
 -- ---- heights above a number
 
 -- among more heights at least as many are above
-more_above : (most i j : ℕ) (hs : List ℕ) → i ≤ j → count_by (λ h. nat_lt most h) (take i hs) ≤ count_by (λ h. nat_lt most h) (take j hs)
+more_above : (most i j : ℕ) (hs : List ℕ) → i ≤ j
+    → count_by (λ h. nat_lt most h) (take i hs) ≤ count_by (λ h. nat_lt most h) (take j hs)
 more_above most zero j hs le = omega arith
 more_above most (suc i) zero hs le = absurd (omega arith)
 more_above most (suc i) (suc j) [] le = omega arith
@@ -34,7 +38,8 @@ more_above most (suc i) (suc j) (h ∷ hs) le = omega (
 )
 
 -- if no more are above, none between is
-none_between : (most i j k : ℕ) (hs : List ℕ) → count_by (λ h. nat_lt most h) (take i hs) ≡ count_by (λ h. nat_lt most h) (take j hs) → i ≤ k → k < j
+none_between : (most i j k : ℕ) (hs : List ℕ)
+    → count_by (λ h. nat_lt most h) (take i hs) ≡ count_by (λ h. nat_lt most h) (take j hs) → i ≤ k → k < j
     → k < length hs → get_or hs k 0 ≤ most
 none_between most i j k [] same from to within = absurd (omega arith)
 none_between most zero zero k (h ∷ hs) same from to within = absurd (omega arith)
@@ -59,7 +64,8 @@ record IsBetween (most i j : ℕ) (hs : List ℕ) : Type 0 where
   above : most < get_or hs place 0
 
 -- if more are above, one between is
-some_between : (most i j : ℕ) (hs : List ℕ) → count_by (λ h. nat_lt most h) (take i hs) < count_by (λ h. nat_lt most h) (take j hs) → IsBetween most i j hs
+some_between : (most i j : ℕ) (hs : List ℕ)
+    → count_by (λ h. nat_lt most h) (take i hs) < count_by (λ h. nat_lt most h) (take j hs) → IsBetween most i j hs
 some_between most i zero hs more = absurd (omega arith)
 some_between most zero (suc j) [] more = absurd (omega arith)
 some_between most (suc i) (suc j) [] more = absurd (omega arith)
@@ -77,10 +83,12 @@ some_between most (suc i) (suc j) (h ∷ hs) more =
 
 -- ---- windows of operations
 
-module _ (first : ℕ) (arrivals departures heights : List ℕ) (up : IsNonDecreasing arrivals) (are : AreHeights first arrivals departures heights) where
+module _ (first : ℕ) (arrivals departures heights : List ℕ) (up : IsNonDecreasing arrivals)
+    (are : AreHeights first arrivals departures heights) where
   -- if the window never exceeds a number, there are never more during the operation
   window_stays : (o : Operation) (most gap : ℕ) → (there_at first arrivals departures (o.call + 1) ≤ most)
-      → count_above most (take (count_before (o.call + 1) arrivals) heights) ≡ count_above most (take (count_before o.ret arrivals) heights)
+      → count_above most (take (count_before (o.call + 1) arrivals) heights)
+      ≡ count_above most (take (count_before o.ret arrivals) heights)
       → IsDuring o gap → there_at first arrivals departures gap ≤ most
   window_stays o most gap start same during = elim (cases_lt (count_before (o.call + 1) arrivals) (count_before gap arrivals)) [
     | inr earlier ↦ omega (arith, start, count_rises (o.call + 1) gap departures (omega (arith, during.0)))
@@ -97,7 +105,8 @@ module _ (first : ℕ) (arrivals departures heights : List ℕ) (up : IsNonDecre
 
   -- if the window exceeds it, there are more at some gap
   window_exceeds : (o : Operation) (most : ℕ) → o.call < o.ret
-      → (most < there_at first arrivals departures (o.call + 1)) ⊎ (count_above most (take (count_before (o.call + 1) arrivals) heights)
+      → (most < there_at first arrivals departures (o.call + 1))
+      ⊎ (count_above most (take (count_before (o.call + 1) arrivals) heights)
       < count_above most (take (count_before o.ret arrivals) heights))
       → (gap : ℕ) × IsDuring o gap × (most < there_at first arrivals departures gap)
   window_exceeds o most forward (inl start) = (o.call + 1, (omega arith, omega arith), start)
@@ -114,7 +123,8 @@ module _ (first : ℕ) (arrivals departures heights : List ℕ) (up : IsNonDecre
       (get_or arrivals k 0 + 1, (omega arith, omega arith), omega (arith, is.above, are.each k within, came))
 
   -- the test of a window decides
-  stays_so : (o : Operation) (most : ℕ) → stays_within heights most (window_of first arrivals departures o) ≡ true → (gap : ℕ) → IsDuring o gap
+  stays_so : (o : Operation) (most : ℕ) → stays_within heights most (window_of first arrivals departures o) ≡ true
+      → (gap : ℕ) → IsDuring o gap
       → there_at first arrivals departures gap ≤ most
   stays_so o most is gap during =
       let parts = both (nat_le (there_at first arrivals departures (o.call + 1)) most) _ is in
@@ -125,7 +135,8 @@ module _ (first : ℕ) (arrivals departures heights : List ℕ) (up : IsNonDecre
       both true false is = absurd (cc)
       both false b is = absurd (cc)
 
-  exceeds_so : (o : Operation) (most : ℕ) → o.call < o.ret → stays_within heights most (window_of first arrivals departures o) ≡ false
+  exceeds_so : (o : Operation) (most : ℕ) → o.call < o.ret
+      → stays_within heights most (window_of first arrivals departures o) ≡ false
       → (gap : ℕ) × IsDuring o gap × (most < there_at first arrivals departures gap)
   exceeds_so o most forward is = window_exceeds o most forward (which (cases_lt most start) (cases_lt above_from above_to))
     where
@@ -141,7 +152,8 @@ module _ (first : ℕ) (arrivals departures heights : List ℕ) (up : IsNonDecre
       rises : above_from ≤ above_to
       rises = more_above most _ _ heights (count_rises (o.call + 1) o.ret arrivals (omega arith))
 
-      which : (most < start) ⊎ (start ≤ most) → (above_from < above_to) ⊎ (above_to ≤ above_from) → (most < start) ⊎ (above_from < above_to)
+      which : (most < start) ⊎ (start ≤ most) → (above_from < above_to) ⊎ (above_to ≤ above_from)
+          → (most < start) ⊎ (above_from < above_to)
       which (inl more) _ = inl more
       which (inr le) (inl more) = inr more
       which (inr le) (inr none) = absurd (neither (nat_le start most) (nat_eq above_from above_to)
@@ -155,7 +167,8 @@ module _ (first : ℕ) (arrivals departures heights : List ℕ) (up : IsNonDecre
 -- ---- counts for each place
 
 -- one more place
-pub counts_more : (most place n : ℕ) (heights above new : List ℕ) → place < length heights → length above ≡ length heights + 1
+pub counts_more : (most place n : ℕ) (heights above new : List ℕ) → place < length heights
+    → length above ≡ length heights + 1
     → n ≡ get_or above place 0 + cond (nat_lt most (get_or heights place 0)) 1 0 → new ≡ set above (place + 1) n
     → ((k : ℕ) → k ≤ place → get_or above k 0 ≡ count_above most (take k heights))
     → (k : ℕ) → k ≤ place + 1 → get_or new k 0 ≡ count_above most (take k heights)
@@ -179,7 +192,8 @@ module _ (first : ℕ) (arrivals departures : List ℕ) where
   found_of o = cond (is_refused o.kind) (Some (window_of first arrivals departures o)) None
 
   -- if some window passes a test, it is that of a failed enqueue
-  some_refusal : (p : Window → Bool) (operations : List Operation) → list_any p (windows_of first arrivals departures operations) ≡ true
+  some_refusal : (p : Window → Bool) (operations : List Operation)
+      → list_any p (windows_of first arrivals departures operations) ≡ true
       → (o : Operation) × IsRefusal operations o × (p (window_of first arrivals departures o) ≡ true)
   some_refusal p [] is = absurd (cc)
   some_refusal p (o ∷ rest) is = here (is_refused o.kind) refl is (some_refusal p rest)
@@ -189,19 +203,22 @@ module _ (first : ℕ) (arrivals departures : List ℕ) where
       later x = (x.0, ((suc x.1.0.0, omega (arith, x.1.0.1), x.1.0.2), x.1.1), x.2)
 
       here : (b : Bool) → is_refused o.kind ≡ b
-          → list_any p (cons_option (cond b (Some (window_of first arrivals departures o)) None) (windows_of first arrivals departures rest)) ≡ true
+          → list_any p (cons_option (cond b (Some (window_of first arrivals departures o)) None)
+          (windows_of first arrivals departures rest)) ≡ true
           → (list_any p (windows_of first arrivals departures rest) ≡ true → (z : Operation) × IsRefusal rest z × (p (window_of first arrivals departures z) ≡ true))
           → (z : Operation) × IsRefusal (o ∷ rest) z × (p (window_of first arrivals departures z) ≡ true)
       here false not_so any more = later (more any)
       here true so any more = passes (p (window_of first arrivals departures o)) refl any
         where
-          passes : (b : Bool) → p (window_of first arrivals departures o) ≡ b → (b || list_any p (windows_of first arrivals departures rest)) ≡ true
+          passes : (b : Bool) → p (window_of first arrivals departures o) ≡ b
+              → (b || list_any p (windows_of first arrivals departures rest)) ≡ true
               → (z : Operation) × IsRefusal (o ∷ rest) z × (p (window_of first arrivals departures z) ≡ true)
           passes true it any = (o, ((0, omega arith, refl), so), it)
           passes false it any = later (more any)
 
   -- if no window passes a test, that of no failed enqueue does
-  no_refusal : (p : Window → Bool) (operations : List Operation) → list_any p (windows_of first arrivals departures operations) ≡ false
+  no_refusal : (p : Window → Bool) (operations : List Operation)
+      → list_any p (windows_of first arrivals departures operations) ≡ false
       → (o : Operation) → IsRefusal operations o → p (window_of first arrivals departures o) ≡ false
   no_refusal p [] is o refusal = absurd (omega (arith, refusal.0.1))
   no_refusal p (x ∷ rest) is o refusal = here (is_refused x.kind) refl is refusal.0 (no_refusal p rest)
@@ -212,7 +229,8 @@ module _ (first : ℕ) (arrivals departures : List ℕ) where
       at (suc k) within is = inr (k, omega arith, is)
 
       here : (b : Bool) → is_refused x.kind ≡ b
-          → list_any p (cons_option (cond b (Some (window_of first arrivals departures x)) None) (windows_of first arrivals departures rest)) ≡ false
+          → list_any p (cons_option (cond b (Some (window_of first arrivals departures x)) None)
+          (windows_of first arrivals departures rest)) ≡ false
           → Contains (x ∷ rest) o
           → (list_any p (windows_of first arrivals departures rest) ≡ false → (z : Operation) → IsRefusal rest z → p (window_of first arrivals departures z) ≡ false)
           → p (window_of first arrivals departures o) ≡ false
@@ -226,12 +244,16 @@ module _ (first : ℕ) (arrivals departures : List ℕ) where
           neither false true is = absurd (cc)
           neither true c is = absurd (cc)
 
-          rest_none : (b : Bool) → list_any p (cons_option (cond b (Some (window_of first arrivals departures x)) None) (windows_of first arrivals departures rest)) ≡ false
+          rest_none : (b : Bool) → list_any p
+              (cons_option (cond b (Some (window_of first arrivals departures x)) None)
+              (windows_of first arrivals departures rest)) ≡ false
               → list_any p (windows_of first arrivals departures rest) ≡ false
           rest_none false none = none
           rest_none true none = (neither _ _ none).1
 
-          it : (b : Bool) → b ≡ true → list_any p (cons_option (cond b (Some (window_of first arrivals departures x)) None) (windows_of first arrivals departures rest)) ≡ false
+          it : (b : Bool) → b ≡ true
+              → list_any p (cons_option (cond b (Some (window_of first arrivals departures x)) None)
+              (windows_of first arrivals departures rest)) ≡ false
               → x ≡ o → p (window_of first arrivals departures o) ≡ false
           it true so none same = ap (λ z. p (window_of first arrivals departures z)) (sym same) ∙ (neither _ _ none).0
           it false so none same = absurd (cc)
@@ -247,7 +269,8 @@ none_refused first arrivals departures operations windows is none o refusal =
     empty (w ∷ ws) none = absurd (omega arith)
 
 -- the least number that a window never exceeds is the minimum of the maximum during a failed enqueue
-pub refused_is : (first least : ℕ) (arrivals departures heights : List ℕ) (operations : List Operation) (windows : List Window) → IsNonDecreasing arrivals
+pub refused_is : (first least : ℕ) (arrivals departures heights : List ℕ) (operations : List Operation)
+    (windows : List Window) → IsNonDecreasing arrivals
     → AreHeights first arrivals departures heights → All (λ o. o.call < o.ret) operations → windows ≡ windows_of first arrivals departures operations
     → list_any (stays_within heights least) windows ≡ true → (0 < least → list_any (stays_within heights (least - 1)) windows ≡ false)
     → IsRefusedAt operations (there_at first arrivals departures) least
@@ -258,7 +281,8 @@ refused_is first least arrivals departures heights operations windows up are for
   at_each = λ o refusal. each o refusal (cases_lt 0 least);
 }
   where
-    one : (o : Operation) × IsRefusal operations o × (stays_within heights least (window_of first arrivals departures o) ≡ true)
+    one : (o : Operation) × IsRefusal operations o
+        × (stays_within heights least (window_of first arrivals departures o) ≡ true)
     one = some_refusal first arrivals departures (stays_within heights least) operations (ap (list_any (stays_within heights least)) (sym is) ∙ within)
 
     goes : (o : Operation) → Contains operations o → o.call < o.ret
@@ -276,7 +300,8 @@ refused_is first least arrivals departures heights operations windows up are for
         (more.0, more.1, omega (arith, more.2))
 
 -- equal numbers have the same minimum
-pub refused_alike : (operations : List Operation) (f g : ℕ → ℕ) (least : ℕ) → ((gap : ℕ) → f gap ≡ g gap) → IsRefusedAt operations f least
+pub refused_alike : (operations : List Operation) (f g : ℕ → ℕ) (least : ℕ) → ((gap : ℕ) → f gap ≡ g gap)
+    → IsRefusedAt operations f least
     → IsRefusedAt operations g least
 refused_alike operations f g least same is = record {
   refusal = is.refusal;
@@ -286,7 +311,8 @@ refused_alike operations f g least same is = record {
 }
 
 -- permuted tickets have the same minimum
-pub refused_permuted : (first least : ℕ) (arrivals arrivals' departures departures' : List ℕ) (operations : List Operation) → IsPermutation arrivals arrivals'
+pub refused_permuted : (first least : ℕ) (arrivals arrivals' departures departures' : List ℕ)
+    (operations : List Operation) → IsPermutation arrivals arrivals'
     → IsPermutation departures departures' → IsRefusedAt operations (there_at first arrivals' departures') least
     → IsRefusedAt operations (there_at first arrivals departures) least
 refused_permuted first least arrivals arrivals' departures departures' operations came went is = refused_alike operations
@@ -297,24 +323,28 @@ refused_permuted first least arrivals arrivals' departures departures' operation
 -- ---- each window never exceeds the greatest number
 
 -- if each window passes a test, some window does, if there is one
-some_passes : (p : Window → Bool) (windows : List Window) → ((k : ℕ) (d : Window) → k < length windows → p (get_or windows k d) ≡ true) → 0 < length windows
+some_passes : (p : Window → Bool) (windows : List Window)
+    → ((k : ℕ) (d : Window) → k < length windows → p (get_or windows k d) ≡ true) → 0 < length windows
     → list_any p windows ≡ true
 some_passes p [] each some = absurd (omega arith)
 some_passes p (w ∷ ws) each some = ap (λ b. b || list_any p ws) (each zero w (omega arith))
 
 -- each window is that of an operation
-each_window : (P : Window → Type 0) (first : ℕ) (arrivals departures : List ℕ) → ((o : Operation) → P (window_of first arrivals departures o))
+each_window : (P : Window → Type 0) (first : ℕ) (arrivals departures : List ℕ)
+    → ((o : Operation) → P (window_of first arrivals departures o))
     → (operations : List Operation) → All P (windows_of first arrivals departures operations)
 each_window P first arrivals departures holds [] = λ k d below. absurd (omega arith)
 each_window P first arrivals departures holds (o ∷ rest) = here (is_refused o.kind) (each_window P first arrivals departures holds rest)
   where
     here : (b : Bool) → All P (windows_of first arrivals departures rest)
-        → All P (cons_option (cond b (Some (window_of first arrivals departures o)) None) (windows_of first arrivals departures rest))
+        → All P (cons_option (cond b (Some (window_of first arrivals departures o)) None)
+        (windows_of first arrivals departures rest))
     here true more = All-cons P (window_of first arrivals departures o) (windows_of first arrivals departures rest) (holds o) more
     here false more = more
 
 -- the arrivals of a window are among all
-pub windows_end : (first : ℕ) (arrivals departures heights : List ℕ) (operations : List Operation) (windows : List Window)
+pub windows_end : (first : ℕ) (arrivals departures heights : List ℕ) (operations : List Operation)
+    (windows : List Window)
     → windows ≡ windows_of first arrivals departures operations → length heights ≡ length arrivals
     → All (λ w. (w.from ≤ length heights) × (w.to ≤ length heights)) windows
 windows_end first arrivals departures heights operations windows is each =
@@ -323,7 +353,8 @@ windows_end first arrivals departures heights operations windows is each =
     (λ o. (omega (arith, count_few (o.call + 1) arrivals, each), omega (arith, count_few o.ret arrivals, each))) operations)
 
 -- no height is above the greatest number
-none_above : (most : ℕ) (hs : List ℕ) (i : ℕ) → ((k : ℕ) → k < length hs → get_or hs k 0 ≤ most) → count_above most (take i hs) ≡ 0
+none_above : (most : ℕ) (hs : List ℕ) (i : ℕ) → ((k : ℕ) → k < length hs → get_or hs k 0 ≤ most)
+    → count_above most (take i hs) ≡ 0
 none_above most hs zero low = refl
 none_above most [] (suc i) low = refl
 none_above most (h ∷ hs) (suc i) low =
@@ -331,7 +362,8 @@ none_above most (h ∷ hs) (suc i) low =
     omega (arith, more, sum_by-cons (λ x. cond (nat_lt most x) 1 0) h (take i hs), ap {B = ℕ} (λ b. cond b 1 0) (le-ltb most h (low zero (omega arith))))
 
 -- no window exceeds the greatest number
-pub stays_at_last : (first last : ℕ) (arrivals departures heights : List ℕ) (operations : List Operation) (windows : List Window)
+pub stays_at_last : (first last : ℕ) (arrivals departures heights : List ℕ) (operations : List Operation)
+    (windows : List Window)
     → windows ≡ windows_of first arrivals departures operations → AreHeights first arrivals departures heights → last ≡ first + length arrivals
     → 0 < length windows → list_any (stays_within heights last) windows ≡ true
 stays_at_last first last arrivals departures heights operations windows is are greatest some =
@@ -350,7 +382,8 @@ stays_at_last first last arrivals departures heights operations windows is are g
         && eq-eqb (count_above last (take (count_before (o.call + 1) arrivals) heights)) (count_above last (take (count_before o.ret arrivals) heights)) (omega arith) i)
 
 -- permuted tickets have the same minimum, whether an enqueue failed or not
-pub permuted_maybe : (first : ℕ) (least : Option ℕ) (arrivals arrivals' departures departures' : List ℕ) (operations : List Operation)
+pub permuted_maybe : (first : ℕ) (least : Option ℕ) (arrivals arrivals' departures departures' : List ℕ)
+    (operations : List Operation)
     → IsPermutation arrivals arrivals' → IsPermutation departures departures'
     → MatchOption least (NoRefusal operations) (IsRefusedAt operations (there_at first arrivals' departures'))
     → MatchOption least (NoRefusal operations) (IsRefusedAt operations (there_at first arrivals departures))
@@ -360,11 +393,13 @@ permuted_maybe first (Some least) arrivals arrivals' departures departures' oper
 
 -- the number present by arrivals and departures is the number that may be in the queue
 pub refused_maybe : (least : Option ℕ) (operations : List Operation) (f g : ℕ → ℕ) → ((gap : ℕ) → f gap ≡ g gap)
-    → MatchOption least (NoRefusal operations) (IsRefusedAt operations f) → MatchOption least (NoRefusal operations) (IsRefusedAt operations g)
+    → MatchOption least (NoRefusal operations) (IsRefusedAt operations f)
+    → MatchOption least (NoRefusal operations) (IsRefusedAt operations g)
 refused_maybe None operations f g same is = is
 refused_maybe (Some least) operations f g same is = refused_alike operations f g least same is
 
-pub left_is_there : (initial : List ℕ) (operations : List Operation) (goes_before : ℕ → ℕ → Bool) (arrivals first_goes departures : List ℕ)
+pub left_is_there : (initial : List ℕ) (operations : List Operation)
+    (goes_before : ℕ → ℕ → Bool) (arrivals first_goes departures : List ℕ)
     → ((gap v : ℕ) → goes_before gap v ≡ is_gone_before gap operations v)
     → ((gap : ℕ) → count_by (λ v. not (goes_before gap v)) initial + count_before gap first_goes ≡ length initial + count_before gap [])
     → ((gap : ℕ) → count_by (λ v. not (goes_before gap v)) (values_called_before gap operations) + count_before gap departures + count_before gap []

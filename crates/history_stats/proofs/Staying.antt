@@ -1,5 +1,6 @@
 -- The values that were enqueued before a ticket and not taken before another, and the number of calls before each.
-use Rattle.std.proofs.Common.{◌≡◌, ℕ, zero, suc, ◌+◌, ◌<◌, ◌≤◌, ◌++◌, List, [], ◌∷◌, length, get_or, cond, refl, sym, ◌∙◌, ap, Bool, true, false}
+use Rattle.std.proofs.Common.{◌≡◌, ℕ, zero, suc, ◌+◌, ◌<◌, ◌≤◌, ◌++◌, List, [], ◌∷◌, length, get_or, cond, refl, sym}
+use Rattle.std.proofs.Common.{◌∙◌, ap, Bool, true, false}
 use Rattle.std.proofs.Common.{All, append-nil, subst, inl, inr, arith, map, not, take, nat_lt, Option, Some, None}
 use Rattle.std.specs.Prelude.{count_by, filter_map, ◌&&◌, ◌||◌, option_map, find}
 use Rattle.std.specs.Option.{option_map_or, option_or}
@@ -14,7 +15,8 @@ use Rattle.std.proofs.lemmas.List.Sorted.{sum_by-IsPermutation}
 use Rattle.history_merge.specs.declared.operation.Operation.{Operation}
 use Rattle.history_merge.specs.declared.operation.OpKind.{OpKind}
 use Rattle.history_merge.specs.declared.operation.OpKind.TheVariants.{Enqueue, Dequeue, DequeueEmpty, EnqueueFailed}
-use Rattle.history_stats.specs.AtOnce.{gave, is_taken_before, put_value, stay_count, value_put_before, values_put_before}
+use Rattle.history_stats.specs.AtOnce.{gave, is_taken_before, put_value, stay_count, value_put_before}
+use Rattle.history_stats.specs.AtOnce.{values_put_before}
 use Rattle.history_stats.specs.Inner.AtOnce.{count_before}
 use Rattle.history_stats.specs.Inner.Overtaking.{CountStays, stays_at}
 use Rattle.history_stats.specs.declared.stays.Stay.{Stay}
@@ -26,14 +28,17 @@ calls_in : List Operation → List ℕ
 calls_in operations = map (λ o. o.call) operations
 
 -- if a dequeue of the value was called by a ticket, and none before it, a call comes at that ticket
-one_more_call : (v t : ℕ) (operations : List Operation) → is_taken_before t operations v ≡ false → is_taken_before (t + 1) operations v ≡ true
+one_more_call : (v t : ℕ) (operations : List Operation) → is_taken_before t operations v ≡ false
+    → is_taken_before (t + 1) operations v ≡ true
     → count_before t (map (λ o. o.call) operations) + 1 ≤ count_before (t + 1) (map (λ o. o.call) operations)
 one_more_call v t [] none some = absurd (cc)
 one_more_call v t (o ∷ rest) none some =
     here (gave v o.kind) (is_taken_before t rest v) (is_taken_before (t + 1) rest v) none some (one_more_call v t rest)
   where
-    here : (g earlier by : Bool) → ((g && nat_lt o.call t) || earlier) ≡ false → ((g && nat_lt o.call (t + 1)) || by) ≡ true
-        → (earlier ≡ false → by ≡ true → count_before t (map (λ o. o.call) rest) + 1 ≤ count_before (t + 1) (map (λ o. o.call) rest))
+    here : (g earlier by : Bool) → ((g && nat_lt o.call t) || earlier) ≡ false
+        → ((g && nat_lt o.call (t + 1)) || by) ≡ true
+        → (earlier ≡ false → by ≡ true
+        → count_before t (map (λ o. o.call) rest) + 1 ≤ count_before (t + 1) (map (λ o. o.call) rest))
         → count_before t (o.call ∷ map (λ o. o.call) rest) + 1 ≤ count_before (t + 1) (o.call ∷ map (λ o. o.call) rest)
     here g earlier by none some more =
         let a = count_cons t o.call (map (λ o. o.call) rest) in
@@ -44,7 +49,8 @@ one_more_call v t (o ∷ rest) none some =
 -- more calls come before a gap than before a value is taken, if and only if it is taken before the gap
 pub taken_before : (operations : List Operation) (v : ℕ) (first : Option ℕ)
     → ((gap : ℕ) → option_map_or (λ t. nat_lt t gap) first false ≡ is_taken_before gap operations v) → (gap : ℕ)
-    → nat_lt (option_map_or (λ t. count_before t (map (λ o. o.call) operations)) first (length (map (λ o. o.call) operations)))
+    → nat_lt (option_map_or (λ t. count_before t (map (λ o. o.call) operations)) first
+    (length (map (λ o. o.call) operations)))
     (count_before gap (map (λ o. o.call) operations)) ≡ is_taken_before gap operations v
 taken_before operations v None is gap = le-ltb _ _ (count_few gap (map (λ o. o.call) operations)) ∙ is gap
 taken_before operations v (Some t) is gap = elim (cases_lt t gap) [
@@ -70,7 +76,8 @@ puts_none (EnqueueFailed v) other = refl
 
 -- the values of one more operation
 put_more : (p : ℕ) (operations : List Operation) (i : ℕ) (d : Operation) → i < length operations
-    → values_put_before p (take (i + 1) operations) ≡ values_put_before p (take i operations) ++ cons_option (value_put_before p (get_or operations i d)) []
+    → values_put_before p (take (i + 1) operations) ≡ values_put_before p (take i operations)
+    ++ cons_option (value_put_before p (get_or operations i d)) []
 put_more p operations i d within =
     ap (values_put_before p) (take_more operations i d within) ∙ filter_map-append (value_put_before p) (take i operations) (get_or operations i d ∷ [])
 
@@ -84,8 +91,10 @@ pub counted_first : (operations : List Operation) (calls : List ℕ) → CountSo
 counted_first operations calls p gap = refl
 
 -- one more operation, which put no value
-pub counted_none : (operations : List Operation) (calls : List ℕ) (i : ℕ) (o : Operation) (stays : List Stay) → i < length operations
-    → o ≡ get_or operations i o → put_value o.kind ≡ None → CountSoFar operations calls i stays → CountSoFar operations calls (i + 1) stays
+pub counted_none : (operations : List Operation) (calls : List ℕ) (i : ℕ) (o : Operation) (stays : List Stay)
+    → i < length operations
+    → o ≡ get_or operations i o → put_value o.kind ≡ None → CountSoFar operations calls i stays
+    → CountSoFar operations calls (i + 1) stays
 counted_none operations calls i o stays within is none so_far p gap =
     so_far p gap ∙ ap (stay_count gap operations) (sym (put_more p operations i o within ∙ ap (λ vs. values_put_before p (take i operations) ++ vs) nothing ∙ append-nil _))
   where
@@ -97,7 +106,8 @@ counted_none operations calls i o stays within is none so_far p gap =
     nothing = ap (λ x. cons_option (value_put_before p x) []) (sym is) ∙ neither (nat_lt o.ret p) (put_value o.kind) none
 
 -- one more operation, which put a value, with its stay
-pub counted_one : (operations : List Operation) (calls : List ℕ) (i v taken : ℕ) (o : Operation) (first : Option ℕ) (stays new : List Stay)
+pub counted_one : (operations : List Operation) (calls : List ℕ) (i v taken : ℕ) (o : Operation) (first : Option ℕ)
+    (stays new : List Stay)
     → i < length operations → o ≡ get_or operations i o → put_value o.kind ≡ Some v → calls ≡ map (λ x. x.call) operations
     → ((gap : ℕ) → option_map_or (λ t. nat_lt t gap) first false ≡ is_taken_before gap operations v)
     → taken ≡ option_map_or (λ t. count_before t calls) first (length calls) → new ≡ stays ++ record { put = o.ret; taken = taken } ∷ []
@@ -113,7 +123,8 @@ counted_one operations calls i v taken o first stays new within is some are_call
   same,
 )
   where
-    one : (b : Bool) (found : Option ℕ) (stays_so : Bool) → found ≡ Some v → stays_so ≡ not (is_taken_before gap operations v)
+    one : (b : Bool) (found : Option ℕ) (stays_so : Bool) → found ≡ Some v
+        → stays_so ≡ not (is_taken_before gap operations v)
         → stay_count gap operations (cons_option (cond b found None) []) ≡ cond (b && stays_so) 1 0
     one true found stays_so is stay =
         ap (λ f. stay_count gap operations (cons_option f [])) is ∙ (λ i. 0 + cond (sym stay i) 1 0) ∙ omega arith
@@ -129,13 +140,15 @@ counted_one operations calls i v taken o first stays new within is some are_call
         ∙ one (nat_lt o.ret p) (put_value o.kind) (not (nat_lt taken (count_before gap calls))) some (ap not taken_so)
 
 -- the count after all operations
-pub counted_all : (operations : List Operation) (calls : List ℕ) (i : ℕ) (stays : List Stay) → length operations ≤ i → CountSoFar operations calls i stays
+pub counted_all : (operations : List Operation) (calls : List ℕ) (i : ℕ) (stays : List Stay) → length operations ≤ i
+    → CountSoFar operations calls i stays
     → CountStays operations calls stays
 counted_all operations calls i stays all so_far p gap =
     so_far p gap ∙ ap (λ os. stay_count gap operations (values_put_before p os)) (take_all i operations all)
 
 -- permuted stays have the same count
-pub counted_sorted : (operations : List Operation) (calls : List ℕ) (stays sorted : List Stay) → IsPermutation stays sorted
+pub counted_sorted : (operations : List Operation) (calls : List ℕ) (stays sorted : List Stay)
+    → IsPermutation stays sorted
     → CountStays operations calls stays → CountStays operations calls sorted
 counted_sorted operations calls stays sorted moved counted p gap =
     sum_by-IsPermutation (λ s. cond (stays_at p (count_before gap calls) s) 1 0) stays sorted moved ∙ counted p gap
@@ -146,19 +159,23 @@ pub record StaysSoFar (operations : List Operation) (calls : List ℕ) (i : ℕ)
   pub taken : All (λ s. s.taken ≤ length calls) stays
   pub few : length stays ≤ i
 
-pub stays_first : (operations : List Operation) (calls : List ℕ) (stays : List Stay) → stays ≡ [] → StaysSoFar operations calls 0 stays
+pub stays_first : (operations : List Operation) (calls : List ℕ) (stays : List Stay) → stays ≡ []
+    → StaysSoFar operations calls 0 stays
 stays_first operations calls stays none = subst (StaysSoFar operations calls 0) (sym none)
     (record { counted = counted_first operations calls; taken = λ k d below. absurd (omega arith); few = omega arith })
 
-pub stays_none : (operations : List Operation) (calls : List ℕ) (i : ℕ) (o : Operation) (stays : List Stay) → i < length operations
-    → o ≡ get_or operations i o → put_value o.kind ≡ None → StaysSoFar operations calls i stays → StaysSoFar operations calls (i + 1) stays
+pub stays_none : (operations : List Operation) (calls : List ℕ) (i : ℕ) (o : Operation) (stays : List Stay)
+    → i < length operations
+    → o ≡ get_or operations i o → put_value o.kind ≡ None → StaysSoFar operations calls i stays
+    → StaysSoFar operations calls (i + 1) stays
 stays_none operations calls i o stays within is none so_far = record {
   counted = counted_none operations calls i o stays within is none so_far.counted;
   taken = so_far.taken;
   few = omega (arith, so_far.few);
 }
 
-pub stays_one : (operations : List Operation) (calls : List ℕ) (i v taken : ℕ) (o : Operation) (first : Option ℕ) (stays new : List Stay)
+pub stays_one : (operations : List Operation) (calls : List ℕ) (i v taken : ℕ) (o : Operation) (first : Option ℕ)
+    (stays new : List Stay)
     → i < length operations → o ≡ get_or operations i o → put_value o.kind ≡ Some v → calls ≡ map (λ x. x.call) operations
     → ((gap : ℕ) → option_map_or (λ t. nat_lt t gap) first false ≡ is_taken_before gap operations v)
     → taken ≡ option_map_or (λ t. count_before t calls) first (length calls) → new ≡ stays ++ record { put = o.ret; taken = taken } ∷ []

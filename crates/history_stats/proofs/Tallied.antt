@@ -1,6 +1,7 @@
 -- Stays that are tallied in the order in which values were enqueued: how many of those enqueued before a ticket are
 -- not taken before another.
-use Rattle.std.proofs.Common.{◌≡◌, ℕ, zero, suc, ◌+◌, ◌-◌, ◌<◌, ◌≤◌, ◌++◌, ◌∷◌, List, [], length, get_or, cond, refl, sym, ◌∙◌, ap, Bool, true, false}
+use Rattle.std.proofs.Common.{◌≡◌, ℕ, zero, suc, ◌+◌, ◌-◌, ◌<◌, ◌≤◌, ◌++◌, ◌∷◌, List, [], length, get_or, cond, refl}
+use Rattle.std.proofs.Common.{sym, ◌∙◌, ap, Bool, true, false}
 use Rattle.std.proofs.Common.{All, None, Some, inl, inr, arith, map, not, take, nat_lt, subst}
 use Rattle.std.specs.Prelude.{count_by, ◌&&◌}
 use Rattle.std.specs.List.Sorted.{IsNonDecreasingBy}
@@ -35,14 +36,16 @@ module _ {X : Type 0} (key : X → ℕ) where
   rest_rises x xs up = λ i j d le within. up (suc i) (suc j) d (omega arith) (omega arith)
 
   -- if the first key isn't below, none is
-  pub none_lies_below : (gap : ℕ) (x : X) (xs : List X) → IsNonDecreasingBy key (x ∷ xs) → gap ≤ key x → below gap (x ∷ xs) ≡ 0
+  pub none_lies_below : (gap : ℕ) (x : X) (xs : List X) → IsNonDecreasingBy key (x ∷ xs) → gap ≤ key x
+      → below gap (x ∷ xs) ≡ 0
   none_lies_below gap x [] up above = below_no gap x [] above
   none_lies_below gap x (y ∷ ys) up above =
       let first : key x ≤ key y = up zero (suc zero) x (omega arith) (omega arith) in
       below_no gap x (y ∷ ys) above ∙ none_lies_below gap y ys (rest_rises x (y ∷ ys) up) (omega arith)
 
   -- if the key at a place is below, so are those before it
-  pub lie_below : (gap : ℕ) (xs : List X) (i : ℕ) (d : X) → IsNonDecreasingBy key xs → i < length xs → key (get_or xs i d) < gap → i + 1 ≤ below gap xs
+  pub lie_below : (gap : ℕ) (xs : List X) (i : ℕ) (d : X) → IsNonDecreasingBy key xs → i < length xs
+      → key (get_or xs i d) < gap → i + 1 ≤ below gap xs
   lie_below gap [] i d up within less = absurd (omega arith)
   lie_below gap (x ∷ xs) zero d up within less = omega (arith, below_one gap x xs less)
   lie_below gap (x ∷ xs) (suc i) d up within less =
@@ -51,7 +54,8 @@ module _ {X : Type 0} (key : X → ℕ) where
       omega (arith, below_one gap x xs (omega arith), more)
 
   -- each element that is counted as below is below
-  pub lies_below : (gap : ℕ) (xs : List X) (i : ℕ) (d : X) → IsNonDecreasingBy key xs → i < below gap xs → key (get_or xs i d) < gap
+  pub lies_below : (gap : ℕ) (xs : List X) (i : ℕ) (d : X) → IsNonDecreasingBy key xs → i < below gap xs
+      → key (get_or xs i d) < gap
   lies_below gap [] i d up few = absurd (omega arith)
   lies_below gap (x ∷ xs) zero d up few = elim (cases_lt (key x) gap) [
     | inl less ↦ less
@@ -73,7 +77,8 @@ module _ {X : Type 0} (key : X → ℕ) where
 -- ---- tallied stays
 
 -- a number up to the limit has room
-pub has_room : (limit place number : ℕ) (stays : List Stay) (levels : List (List ℕ)) → number ≤ limit → AreTallied limit stays place levels
+pub has_room : (limit place number : ℕ) (stays : List Stay) (levels : List (List ℕ)) → number ≤ limit
+    → AreTallied limit stays place levels
     → HasRoomFor number levels
 has_room limit place number stays levels within are = record {
   limit = limit;
@@ -86,7 +91,8 @@ has_room limit place number stays levels within are = record {
 -- one more stay
 pub tallied_more : (limit place : ℕ) (d : Stay) (stays : List Stay) (old new : List (List ℕ)) → place < length stays
     → AreTallied limit stays place old
-    → ((numbers : List ℕ) → (get_or stays place d).taken ≤ limit → IsTally limit numbers old → IsTally limit (numbers ++ (get_or stays place d).taken ∷ []) new)
+    → ((numbers : List ℕ) → (get_or stays place d).taken ≤ limit → IsTally limit numbers old
+    → IsTally limit (numbers ++ (get_or stays place d).taken ∷ []) new)
     → AreTallied limit stays (place + 1) new
 tallied_more limit place d stays old new within are adds = record {
   taken = are.taken;
@@ -97,7 +103,8 @@ tallied_more limit place d stays old new within are adds = record {
 
 -- in sorted stays those enqueued before a ticket come first; they stay past another ticket, or were taken before it
 pub stay_or_taken : (p r : ℕ) (stays : List Stay) → IsNonDecreasingBy (λ s. s.put) stays
-    → count_by (stays_at p r) stays + count_by (λ t. nat_lt t r) (map (λ s. s.taken) (take (count_by (λ s. nat_lt s.put p) stays) stays))
+    → count_by (stays_at p r) stays
+    + count_by (λ t. nat_lt t r) (map (λ s. s.taken) (take (count_by (λ s. nat_lt s.put p) stays) stays))
     ≡ count_by (λ s. nat_lt s.put p) stays
 stay_or_taken p r [] up = refl
 stay_or_taken p r (s ∷ rest) up = elim (cases_lt s.put p) [
@@ -138,9 +145,11 @@ stay_or_taken p r (s ∷ rest) up = elim (cases_lt s.put p) [
     few xs = sum_by-le-sum_by (λ x. cond (stays_at p r x) 1 0) (λ x. cond (nat_lt x.put p) 1 0) xs (λ x. less (nat_lt x.put p) (not (nat_lt x.taken r)))
 
 -- the number of tallied stays that were taken before a ticket
-pub counted_few : (limit place r found : ℕ) (stays : List Stay) (levels : List (List ℕ)) → place ≤ length stays → r ≤ limit
+pub counted_few : (limit place r found : ℕ) (stays : List Stay) (levels : List (List ℕ)) → place ≤ length stays
+    → r ≤ limit
     → AreTallied limit stays place levels
-    → ((limit : ℕ) (numbers : List ℕ) → r ≤ limit → IsTally limit numbers levels → found ≡ count_by (λ x. nat_lt x r) numbers) → found ≤ place
+    → ((limit : ℕ) (numbers : List ℕ) → r ≤ limit → IsTally limit numbers levels
+    → found ≡ count_by (λ x. nat_lt x r) numbers) → found ≤ place
 counted_few limit place r found stays levels within fits are counts = omega (
   arith,
   counts limit (map (λ s. s.taken) (take place stays)) fits are.is_tally,
@@ -150,9 +159,11 @@ counted_few limit place r found stays levels within fits are counts = omega (
 )
 
 -- the other tallied stays stay past it
-pub counted_below : (limit place p r found : ℕ) (stays : List Stay) (levels : List (List ℕ)) → r ≤ limit → AreTallied limit stays place levels
+pub counted_below : (limit place p r found : ℕ) (stays : List Stay) (levels : List (List ℕ)) → r ≤ limit
+    → AreTallied limit stays place levels
     → IsNonDecreasingBy (λ s. s.put) stays → place ≡ count_by (λ s. nat_lt s.put p) stays
-    → ((limit : ℕ) (numbers : List ℕ) → r ≤ limit → IsTally limit numbers levels → found ≡ count_by (λ x. nat_lt x r) numbers)
+    → ((limit : ℕ) (numbers : List ℕ) → r ≤ limit → IsTally limit numbers levels
+    → found ≡ count_by (λ x. nat_lt x r) numbers)
     → place - found ≡ count_by (stays_at p r) stays
 counted_below limit place p r found stays levels fits are up is counts = omega (
   arith,
@@ -174,8 +185,10 @@ overtakes_some count n called v some is =
     ∙ ap (λ m. overtaking_of m called v) is
 
 -- before the next dequeue no more values were enqueued than before its value
-pub few_next : (stays : List Stay) (takings : List Taking) (i put : ℕ) (x : Taking) → i < length takings → x ≡ get_or takings i x
-    → put ≡ count_by (λ s. nat_lt s.put x.enqueue_call) stays → IsNonDecreasingBy (λ t. t.enqueue_call) takings → (k : ℕ) (d : Taking) → i + 1 ≤ k
+pub few_next : (stays : List Stay) (takings : List Taking) (i put : ℕ) (x : Taking) → i < length takings
+    → x ≡ get_or takings i x
+    → put ≡ count_by (λ s. nat_lt s.put x.enqueue_call) stays → IsNonDecreasingBy (λ t. t.enqueue_call) takings
+    → (k : ℕ) (d : Taking) → i + 1 ≤ k
     → k < length takings → put ≤ count_by (λ s. nat_lt s.put (get_or takings k d).enqueue_call) stays
 few_next stays takings i put x within at is up k d later below =
     let one = up i k d (omega arith) below in

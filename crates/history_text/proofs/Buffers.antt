@@ -31,7 +31,8 @@ abbrev left_in : List ℕ → ℕ → ℕ → Known → Left
 left_in bytes at filled behind = record { front = part bytes at filled; behind = behind }
 
 -- a text at a place of the buffer is taken
-pub takes_from_buffer : (bytes : List ℕ) (at filled len room : ℕ) (text : List ℕ) (behind : Known) → len ≤ filled - at → filled ≤ length bytes
+pub takes_from_buffer : (bytes : List ℕ) (at filled len room : ℕ) (text : List ℕ) (behind : Known) → len ≤ filled - at
+    → filled ≤ length bytes
     → length bytes ≤ at + room → take room (drop at bytes) ≡ text ++ drop len (take room (drop at bytes))
     → Takes (left_in bytes at filled behind) (left_in bytes (at + len) filled behind) text
 takes_from_buffer bytes at filled len room text behind within fits all is =
@@ -41,7 +42,8 @@ takes_from_buffer bytes at filled len room text behind within fits all is =
     (takes_front text (part bytes (at + len) filled) behind)
 
 -- the byte at a place, and those after it
-byte_at : (bytes : List ℕ) (at : ℕ) → at < length bytes → drop at bytes ≡ slice_index_or bytes at 0 ∷ drop 1 (drop at bytes)
+byte_at : (bytes : List ℕ) (at : ℕ) → at < length bytes
+    → drop at bytes ≡ slice_index_or bytes at 0 ∷ drop 1 (drop at bytes)
 byte_at [] at within = absurd (omega (arith, within))
 byte_at (b ∷ bytes) zero within = refl
 byte_at (b ∷ bytes) (suc at) within = byte_at bytes at (omega (arith, within))
@@ -72,7 +74,8 @@ has_more_in_buffer bytes at filled behind some within a may =
     subst HasMore (sym may.2) (has_more_behind (part bytes at filled) may.0 (grind (arith, length-take-le, length-drop)))
 
 -- the input is over if and only if a read gave no byte
-pub over_if_nothing : (behind : Known) (n : ℕ) (bytes : List ℕ) → n ≤ length bytes → (n ≡ 0 → behind ≡ Exactly (over EndOfInput))
+pub over_if_nothing : (behind : Known) (n : ℕ) (bytes : List ℕ) → n ≤ length bytes
+    → (n ≡ 0 → behind ≡ Exactly (over EndOfInput))
     → IsOverIf (left_in bytes 0 n behind) (not (nat_lt 0 n))
 over_if_nothing behind zero bytes within ends =
     subst (λ (b : Known). IsOver EndOfInput (record { front = []; behind = b })) (sym (ends refl)) (nothing_left EndOfInput)
@@ -81,7 +84,8 @@ over_if_nothing behind (suc n) bytes within ends =
 
 -- moving the bytes that are left to the front, and reading after them, takes nothing
 pub moved_and_read : (bytes more : List ℕ) (at filled n : ℕ) (old new : Known) → at ≤ filled → filled ≤ length bytes
-    → take (filled - at) more ≡ take (filled - at) (paste bytes 0 (drop at bytes) (filled - at)) → Gives old new (take n (drop (filled - at) more))
+    → take (filled - at) more ≡ take (filled - at) (paste bytes 0 (drop at bytes) (filled - at))
+    → Gives old new (take n (drop (filled - at) more))
     → Takes (left_in bytes at filled old) (left_in more 0 (filled - at + n) new) []
 moved_and_read bytes more at filled n old new in_order within kept gives =
     let given = take n (drop (filled - at) more) in

@@ -35,7 +35,8 @@ pub use Rattle.text_lines.proofs.Putting.{stops_before, stops_inside}
 pub use Rattle.text_lines.proofs.Tables.{has_bits, is_line_form, numbers_back, parse_line_says, spelled_is_line}
 pub use Rattle.text_lines.proofs.WrittenLines.{all_digits, end_read, field_is_clean, IsLineOf, number_is_field}
 pub use Rattle.history_merge.specs.declared.operation.OpKind.{OpKind}
-pub use Rattle.history_merge.specs.declared.operation.OpKind.TheVariants.{Dequeue, DequeueEmpty, Enqueue, EnqueueFailed}
+pub use Rattle.history_merge.specs.declared.operation.OpKind.TheVariants.{Dequeue, DequeueEmpty, Enqueue}
+pub use Rattle.history_merge.specs.declared.operation.OpKind.TheVariants.{EnqueueFailed}
 pub use Rattle.history_merge.specs.declared.operation.Operation.{Operation}
 pub use Rattle.recorder_core.specs.declared.step.Step.{Step}
 pub use Rattle.claims.specs.Claiming.{line_at}
@@ -50,12 +51,14 @@ pub use Rattle.history_text.specs.Claims.{valued_operation}
 pub use Rattle.history_text.specs.Histories.{event_format, event_forms, event_in, event_line, event_of, HasEventLine}
 pub use Rattle.history_text.specs.Histories.{HasHistoryText, HasValueInRange, lines_to_end, plain_event, valued_event}
 pub use Rattle.history_text.specs.Histories.{what_fields}
-pub use Rattle.history_text.specs.Inner.Taking.{behind, BrokenLineFault, count_format, FaultAtFront, HasItemsFault, IsItemLine}
+pub use Rattle.history_text.specs.Inner.Taking.{behind, BrokenLineFault, count_format, FaultAtFront, HasItemsFault}
+pub use Rattle.history_text.specs.Inner.Taking.{IsItemLine}
 pub use Rattle.history_text.specs.Inner.Taking.{IsOfInput, IsSpelled, NoLineFault, setting_format}
 pub use Rattle.history_text.specs.Inner.Verdicts.{line_text, lines_text}
 pub use Rattle.history_text.specs.Items.{a_value, FaultAmong, Format, HaveLines, item_at_front, item_in, ItemFault}
 pub use Rattle.history_text.specs.Items.{line_at_front, line_of, LineFault, lines_of, NoRoom, NoRoomAmong, read_by}
-pub use Rattle.history_text.specs.Reading.{BeginsWith, Fails, HasFirstFault, HasMore, HasTextFault, Input, IsAll, IsOver}
+pub use Rattle.history_text.specs.Reading.{BeginsWith, Fails, HasFirstFault, HasMore, HasTextFault, Input, IsAll}
+pub use Rattle.history_text.specs.Reading.{IsOver}
 pub use Rattle.history_text.specs.Reading.{IsOverIf, Left, MayBeLeft, OfLeft, Takes}
 pub use Rattle.history_text.specs.Schedules.{draining, HasScheduleText, HasStepLine, IsAnswerInRange}
 pub use Rattle.history_text.specs.Schedules.{IsScheduleTextFault, IsSetting, lines_before_steps, NoRoomForSchedule}

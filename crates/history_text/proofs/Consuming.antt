@@ -1,5 +1,6 @@
 -- Bytes taken from the input in turn.
-use Rattle.history_text.proofs.Common.{[], after, Ahead, ap, append-nil, append_assoc, Ending, Exactly, Gives, IsOver, Known, Left, List, MayBeLeft}
+use Rattle.history_text.proofs.Common.{[], after, Ahead, ap, append-nil, append_assoc, Ending, Exactly, Gives, IsOver}
+use Rattle.history_text.proofs.Common.{Known, Left, List, MayBeLeft}
 use Rattle.history_text.proofs.Common.{arith, Failure, Fails, HasMore, length, ◌∷◌}
 use Rattle.history_text.proofs.Common.{OfLeft, over, refl, some_input, subst, sym, Takes, ℕ, ◌++◌, ◌∙◌, ◌≡◌}
 
@@ -43,12 +44,14 @@ end_after a b end xs h over_is =
     subst (MayBeLeft a) (ap (after xs) (over_is.only some.0 some.1) ∙ same_bytes (xs ++ []) xs end (append-nil xs)) (h.before some.0 some.1)
 
 -- a fact about the bytes before the end of the input
-pub before_end : (a b : Left) (end : Ending) (xs : List ℕ) (P : Ending → List ℕ → Type 0) → Takes a b xs → IsOver end b → P end xs
+pub before_end : (a b : Left) (end : Ending) (xs : List ℕ) (P : Ending → List ℕ → Type 0) → Takes a b xs → IsOver end b
+    → P end xs
     → OfLeft a (λ u. P u.ending u.bytes)
 before_end a b end xs P h over_is p = record { input = ahead xs end; may = end_after a b end xs h over_is; is_so = p }
 
 -- bytes at the front of those that were read are taken
-pub takes_front : (xs ys : List ℕ) (behind : Known) → Takes (record { front = xs ++ ys; behind = behind }) (record { front = ys; behind = behind }) xs
+pub takes_front : (xs ys : List ℕ) (behind : Known)
+    → Takes (record { front = xs ++ ys; behind = behind }) (record { front = ys; behind = behind }) xs
 takes_front xs ys behind = record {
   before = λ a may. (may.0, may.1, ap (after xs) may.2 ∙ after-append xs ys may.0);
 }
@@ -65,7 +68,8 @@ pub nothing_left : (ending : Ending) → IsOver ending (record { front = []; beh
 nothing_left ending = record { only = λ a may. may.2 ∙ ap (after []) may.1 }
 
 -- taking an empty line and then nothing takes nothing
-pub nothing_more : (old mid new : Left) (line : List ℕ) → length line ≡ 0 → Takes old mid line → Takes mid new [] → Takes old new []
+pub nothing_more : (old mid new : Left) (line : List ℕ) → length line ≡ 0 → Takes old mid line → Takes mid new []
+    → Takes old new []
 nothing_more old mid new [] none taken more = Takes-append old mid new [] [] taken more
 nothing_more old mid new (b ∷ line) none taken more = absurd (omega (arith, none))
 

@@ -28,7 +28,8 @@ use Rattle.history_text.proofs.Consuming.{Takes-append, before, before_end, some
 pub then_ok : {A B : Type 0} (r : Result A TextFault) (f : A → Result B TextFault) (x : A) → r ≡ Ok x → (r >>= f) ≡ f x
 then_ok r f x is = ap (λ q. q >>= f) is
 
-pub then_err : {A B : Type 0} (r : Result A TextFault) (f : A → Result B TextFault) (fault : TextFault) → r ≡ Err fault → (r >>= f) ≡ Err fault
+pub then_err : {A B : Type 0} (r : Result A TextFault) (f : A → Result B TextFault) (fault : TextFault) → r ≡ Err fault
+    → (r >>= f) ≡ Err fault
 then_err r f fault is = ap (λ q. q >>= f) is
 
 -- ---- the first line
@@ -47,7 +48,8 @@ first_at rows other ending Unfinished = Err (fault_at ending)
 first_at rows other ending Nothing = Err (fault_at ending)
 
 -- a line that is one of these is read
-pub first_read : {A : Type 0} (rows : List (A × List ℕ)) (other : TextFault) (ending : Ending) (value : A) (bytes rest : List ℕ)
+pub first_read : {A : Type 0} (rows : List (A × List ℕ)) (other : TextFault) (ending : Ending) (value : A)
+    (bytes rest : List ℕ)
     → has_no_line_feed bytes ≡ true → length bytes ≤ 80 → value_with rows other bytes rest ≡ Ok (value, rest)
     → first_at rows other ending (front_of (line bytes ++ rest)) ≡ Ok (value, rest)
 first_read rows other ending value bytes rest one short is = grind (arith, whole)
@@ -66,7 +68,8 @@ abbrev listed : {A : Type 0} → List A → List ℕ → Result (List A × List 
 listed xs rest = Ok (xs, rest)
 
 -- an optional item before others
-abbrev onward : {A : Type 0} → Option A → List ℕ → Result (List A × List ℕ) TextFault → Result (List A × List ℕ) TextFault
+abbrev onward : {A : Type 0} → Option A → List ℕ → Result (List A × List ℕ) TextFault
+    → Result (List A × List ℕ) TextFault
 onward None rest later = listed [] rest
 onward (Some x) rest later = later >>= λ more. listed (x ∷ more.0) more.1
 
@@ -92,7 +95,8 @@ module _ {A : Type 0} (step : ℕ → List ℕ → Result (Option A × List ℕ)
   ends_here most k (Err f) = refl
 
   -- some items are read, up to what ends them, if the line of each is read
-  pub items_read : (format : Format A) (limit most k i : ℕ) (xs : List A) (r : List ℕ) (last : Result (List ℕ) TextFault)
+  pub items_read : (format : Format A) (limit most k i : ℕ) (xs : List A) (r : List ℕ)
+      (last : Result (List ℕ) TextFault)
       → ((j : ℕ) (x : A) (rest : List ℕ) → format.HasLine x → j < limit → step j (line_of format x ++ rest) ≡ Ok (Some x, rest))
       → AllByRecursion format.HasLine xs → i ≡ k + length xs → i ≤ limit → length xs < most
       → step i r ≡ (last >>= at_end) → items_from most k (lines_of format xs ++ r) ≡ (last >>= listed xs)
@@ -127,7 +131,8 @@ module _ {A : Type 0} (format : Format A) where
         (λ k x more. back (n + k) k ending x more) right.each (omega arith) few (omega (arith, few)) end
 
     -- items are read up to their last line
-    pub counted_read : (xs : List A) (rest : List ℕ) → HaveLines format xs → format.is_counted ≡ true → format.most < 2 ^ 64
+    pub counted_read : (xs : List A) (rest : List ℕ) → HaveLines format xs → format.is_counted ≡ true
+        → format.most < 2 ^ 64
         → items_in n ending ((lines_of format xs ++ end_line (length xs)) ++ rest) ≡ Ok (xs, rest)
     counted_read xs rest right counted small =
         let few = right.few in
@@ -136,7 +141,8 @@ module _ {A : Type 0} (format : Format A) where
         (end_front format (n + length xs) (length xs) ending rest counted (omega (arith, few, small))))
 
     -- the first fault of the items is found
-    pub fault_found : (fault : TextFault) (bytes : List ℕ) → ItemFault format n ending fault bytes → items_in n ending bytes ≡ Err fault
+    pub fault_found : (fault : TextFault) (bytes : List ℕ) → ItemFault format n ending fault bytes
+        → items_in n ending bytes ≡ Err fault
     fault_found fault bytes h =
         let few = h.right.few in
         rw h.front (items_read (λ k b. item_at_front format (n + k) k ending (front_of b)) format format.most (suc format.most) 0 (length h.items)
@@ -153,7 +159,8 @@ module _ {A : Type 0} (format : Format A) where
   abbrev pub among_in : ℕ → ℕ → Ending → List ℕ → Result (List A × List ℕ) TextFault
   among_in many n ending bytes = items_from (next_among many n ending) (suc many) 0 bytes
 
-  module _ (says : (item : A) → format.HasLine item → Says format.read (line_of format item) item) (n : ℕ) (ending : Ending) where
+  module _ (says : (item : A) → format.HasLine item → Says format.read (line_of format item) item) (n : ℕ)
+      (ending : Ending) where
     next_read : (many k : ℕ) (x : A) (rest : List ℕ) → format.HasLine x → k < many
         → next_among many n ending k (line_of format x ++ rest) ≡ Ok (Some x, rest)
     next_read many k x rest has more =
@@ -181,8 +188,10 @@ module _ {A : Type 0} (format : Format A) where
 -- the judgement of an input: a text that it begins with is read, if such bytes may follow, and a first fault is found
 pub record IsJudged {T : Type 0} (HasIt : T → Type 0) (text : T → List ℕ) (MayFollow : Ending → List ℕ → Type 0)
     (IsFault : ℕ → Ending → List ℕ → TextFault → Type 0) (judge : ℕ → Ending → List ℕ → Result (T × List ℕ) TextFault) : Type 0 where
-  pub read : (lines : ℕ) (ending : Ending) (t : T) (rest : List ℕ) → HasIt t → MayFollow ending rest → judge lines ending (text t ++ rest) ≡ Ok (t, rest)
-  pub found : (lines : ℕ) (ending : Ending) (bytes : List ℕ) (fault : TextFault) → IsFault lines ending bytes fault → judge lines ending bytes ≡ Err fault
+  pub read : (lines : ℕ) (ending : Ending) (t : T) (rest : List ℕ) → HasIt t → MayFollow ending rest
+      → judge lines ending (text t ++ rest) ≡ Ok (t, rest)
+  pub found : (lines : ℕ) (ending : Ending) (bytes : List ℕ) (fault : TextFault) → IsFault lines ending bytes fault
+      → judge lines ending bytes ≡ Err fault
 
 -- the input that is left begins with these bytes, and such bytes follow
 abbrev pub Stands : (Ending → List ℕ → Type 0) → Left → List ℕ → Type 0
@@ -199,13 +208,15 @@ module _ {T : Type 0} {HasIt : T → Type 0} {text : T → List ℕ} {MayFollow 
     {IsFault : ℕ → Ending → List ℕ → TextFault → Type 0} {judge : ℕ → Ending → List ℕ → Result (T × List ℕ) TextFault}
     (judged : IsJudged HasIt text MayFollow IsFault judge) where
   -- texts that one input begins with are equal
-  pub texts_agree : (ending : Ending) (s t : T) (q r : List ℕ) → HasIt s → HasIt t → MayFollow ending q → MayFollow ending r
+  pub texts_agree : (ending : Ending) (s t : T) (q r : List ℕ) → HasIt s → HasIt t → MayFollow ending q
+      → MayFollow ending r
       → text s ++ q ≡ text t ++ r → (s ≡ t) × (q ≡ r)
   texts_agree ending s t q r has_s has_t may_q may_r same =
       let both = sym (judged.read 0 ending s q has_s may_q) ∙ ap (judge 0 ending) same ∙ judged.read 0 ending t r has_t may_r in grind (arith, both)
 
   -- an input that begins with a text has no fault
-  pub text_has_no_fault : (lines : ℕ) (ending : Ending) (t : T) (r : List ℕ) (fault : TextFault) → HasIt t → MayFollow ending r
+  pub text_has_no_fault : (lines : ℕ) (ending : Ending) (t : T) (r : List ℕ) (fault : TextFault) → HasIt t
+      → MayFollow ending r
       → IsFault lines ending (text t ++ r) fault → ⊥
   text_has_no_fault lines ending t r fault has may h = grind arith
 
@@ -215,7 +226,8 @@ module _ {T : Type 0} {HasIt : T → Type 0} {text : T → List ℕ} {MayFollow 
   one_first_fault lines ending bytes f g h k = grind arith
 
   -- a text that the input begins with is read, unless memory runs out
-  pub reads_what_is_there : {V : Type 0} (LacksRoom : List ℕ → Type 0) (P : V → Type 0) (Told : V → T → Type 0) (lines : ℕ) (old new : Left)
+  pub reads_what_is_there : {V : Type 0} (LacksRoom : List ℕ → Type 0) (P : V → Type 0) (Told : V → T → Type 0)
+      (lines : ℕ) (old new : Left)
       (r : Result V TextFault) → IfOk r P → IfErr r (HasFirstFault (IsFault lines) LacksRoom old)
       → ((v : V) → P v → (t : T) × HasIt t × Takes old new (text t) × ((b : Ahead) → MayBeLeft new b → MayFollow b.ending b.bytes) × Told v t)
       → (t : T) → HasIt t → Stands MayFollow old (text t) → MatchResult r (λ v. Told v t) (λ fault. fault ≡ Memory)
@@ -240,12 +252,14 @@ module _ {T : Type 0} {HasIt : T → Type 0} {text : T → List ℕ} {MayFollow 
 abbrev pub AtFront : Left → (Ending → Front → Type 0) → Type 0
 AtFront old P = OfLeft old (λ a. P a.ending (front_of a.bytes))
 
-over_by : (P : Ending → Front → Type 0) (end : Ending) (given : List ℕ) → IsPartOfLine given → P end Unfinished → P end Nothing → P end (front_of given)
+over_by : (P : Ending → Front → Type 0) (end : Ending) (given : List ℕ) → IsPartOfLine given → P end Unfinished
+    → P end Nothing → P end (front_of given)
 over_by P end [] part some none = none
 over_by P end (b ∷ given) part some none = subst (P end) (sym (front_unfinished (b ∷ given) part (omega arith))) some
 
 -- a read failed
-pub at_failure : (P : Ending → Front → Type 0) (old new : Left) (given : List ℕ) → Takes old new given → IsPartOfLine given
+pub at_failure : (P : Ending → Front → Type 0) (old new : Left) (given : List ℕ) → Takes old new given
+    → IsPartOfLine given
     → IsOver Failure new → P Failure Unfinished → P Failure Nothing → AtFront old P
 at_failure P old new given taken part over some none =
     before_end old new Failure given (λ e b. P e (front_of b)) taken over (over_by P Failure given part some none)
@@ -257,13 +271,15 @@ at_cut P old new given taken part over more holds =
     before_end old new EndOfInput given (λ e b. P e (front_of b)) taken over (subst (P EndOfInput) (sym (front_unfinished given part more)) holds)
 
 -- the line was too long
-pub at_long : (P : Ending → Front → Type 0) (old new : Left) (given : List ℕ) (b : ℕ) → Takes old new (given ++ b ∷ []) → IsPartOfLine given
+pub at_long : (P : Ending → Front → Type 0) (old new : Left) (given : List ℕ) (b : ℕ) → Takes old new (given ++ b ∷ [])
+    → IsPartOfLine given
     → length given ≡ longest_line → is_line_feed b ≡ false → ((e : Ending) → P e TooLong) → AtFront old P
 at_long P old new given b taken part full other holds =
     before old new (given ++ b ∷ []) (λ e r. P e (front_of r)) taken (λ e more. grind (arith, front_too_long))
 
 -- the line was whole
-pub at_line : (P : Ending → Front → Type 0) (old new : Left) (bytes : List ℕ) → Takes old new (line bytes) → IsPartOfLine bytes
+pub at_line : (P : Ending → Front → Type 0) (old new : Left) (bytes : List ℕ) → Takes old new (line bytes)
+    → IsPartOfLine bytes
     → ((e : Ending) (rest : List ℕ) → P e (Whole bytes rest)) → AtFront old P
 at_line P old new bytes taken part holds =
     before old new (line bytes) (λ e r. P e (front_of r)) taken (λ e more. subst (P e) (sym (whole bytes more part)) (holds e more))
@@ -276,7 +292,8 @@ no_line long old fault h = let broken = h.is_so in record { input = h.input; may
 -- ---- items
 
 -- a line with a fault is the line of the next item
-pub items_faulty : {A : Type 0} (format : Format A) (n k : ℕ) (old new : Left) (bytes : List ℕ) (r : Result (Option A) TextFault)
+pub items_faulty : {A : Type 0} (format : Format A) (n k : ℕ) (old new : Left) (bytes : List ℕ)
+    (r : Result (Option A) TextFault)
     → Takes old new (line bytes) → IsPartOfLine bytes → r ≡ item_in format n k bytes
     → IfErr r (FaultAtFront (λ end fault front. item_at_front format n k end front ≡ Err fault) old)
 items_faulty format n k old new bytes (Ok item) taken part e = tt
@@ -286,7 +303,8 @@ items_faulty format n k old new bytes (Err fault) taken part e =
 -- ---- whole lines
 
 -- a faulty next line has been counted
-pub next_line_faulty : {A : Type 0} (read : ℕ → List (List ℕ) → Result A TextFault) (n m : ℕ) (old new : Left) (bytes : List ℕ)
+pub next_line_faulty : {A : Type 0} (read : ℕ → List (List ℕ) → Result A TextFault) (n m : ℕ) (old new : Left)
+    (bytes : List ℕ)
     (r : Result A TextFault) → m ≡ n → Takes old new (line bytes) × IsPartOfLine bytes → r ≡ read m (fields_of bytes)
     → IfErr r (FaultAtFront (λ end fault front. line_at_front read n end front ≡ Err fault) old)
 next_line_faulty read n m old new bytes (Ok said) same taken e = tt
@@ -294,25 +312,30 @@ next_line_faulty read n m old new bytes (Err fault) same taken e =
     at_line (λ end front. line_at_front read n end front ≡ Err fault) old new bytes taken.0 taken.1 (λ end rest. rw (← same, ← e) refl)
 
 -- the line of an item is taken
-pub required_taken : {A : Type 0} (format : Format A) (old new : Left) (bytes : List ℕ) (r : Result A TextFault) → Takes old new (line bytes)
-    → IfOk r (IsSpelled format (fields_of bytes)) → IfOk r (λ item. Takes old new (line_of format item) × format.HasLine item)
+pub required_taken : {A : Type 0} (format : Format A) (old new : Left) (bytes : List ℕ) (r : Result A TextFault)
+    → Takes old new (line bytes)
+    → IfOk r (IsSpelled format (fields_of bytes))
+    → IfOk r (λ item. Takes old new (line_of format item) × format.HasLine item)
 required_taken format old new bytes (Ok item) taken spelled =
     (subst (λ b. Takes old new (line b)) (sym (join_with_byte-slice_split 32 bytes) ∙ ap spaced spelled.text) taken, spelled.line)
 required_taken format old new bytes (Err fault) taken spelled = tt
 
 -- a fault of the input isn't out of memory
-pub first_is : (IsFault : Ending → List ℕ → TextFault → Type 0) (LacksRoom : List ℕ → Type 0) (old : Left) (fault : TextFault)
+pub first_is : (IsFault : Ending → List ℕ → TextFault → Type 0) (LacksRoom : List ℕ → Type 0) (old : Left)
+    (fault : TextFault)
     → IsOfInput fault → OfLeft old (λ a. IsFault a.ending a.bytes fault) → HasFirstFault IsFault LacksRoom old fault
 first_is F L old Memory other h = absurd other
 first_is F L old fault other h = h
 
 -- a property of the input after a front, as one of the whole
-pub moved : (P Q : Ahead → Type 0) (old mid : Left) (front : List ℕ) → Takes old mid front → ((a : Ahead) → P a → Q (after front a))
+pub moved : (P Q : Ahead → Type 0) (old mid : Left) (front : List ℕ) → Takes old mid front
+    → ((a : Ahead) → P a → Q (after front a))
     → OfLeft mid P → OfLeft old Q
 moved P Q old mid front taken step h = record { input = after front h.input; may = taken.before h.input h.may; is_so = step h.input h.is_so }
 
 -- a fault of the line after a taken front, line m, is one of the whole input
-pub line_fault : (P : ℕ → Ending → List ℕ → TextFault → Type 0) (Q : Ending → List ℕ → TextFault → Type 0) (LacksRoom : List ℕ → Type 0) (n m : ℕ)
+pub line_fault : (P : ℕ → Ending → List ℕ → TextFault → Type 0) (Q : Ending → List ℕ → TextFault → Type 0)
+    (LacksRoom : List ℕ → Type 0) (n m : ℕ)
     (old mid : Left) (front : List ℕ) (fault : TextFault) → m ≡ n → IsOfInput fault → Takes old mid front
     → ((e : Ending) (r : List ℕ) → P n e r fault → Q e (front ++ r) fault)
     → OfLeft mid (λ a. P m a.ending a.bytes fault) → HasFirstFault Q LacksRoom old fault
@@ -320,7 +343,8 @@ line_fault P Q L n m old mid front fault same of_input taken step h = first_is Q
     (moved (λ a. P m a.ending a.bytes fault) (λ a. Q a.ending a.bytes fault) old mid front taken (λ a. rw same (step a.ending a.bytes)) h)
 
 -- a first fault of what follows a taken front, from line m on, is the first of the whole input
-pub later_fault : (P : ℕ → Ending → List ℕ → TextFault → Type 0) (Q : Ending → List ℕ → TextFault → Type 0) (L M : List ℕ → Type 0) (n m : ℕ)
+pub later_fault : (P : ℕ → Ending → List ℕ → TextFault → Type 0) (Q : Ending → List ℕ → TextFault → Type 0)
+    (L M : List ℕ → Type 0) (n m : ℕ)
     (old mid : Left) (front : List ℕ) (fault : TextFault) → m ≡ n → Takes old mid front
     → ((e : Ending) (r : List ℕ) (f : TextFault) → P n e r f → Q e (front ++ r) f) → ((r : List ℕ) → L r → M (front ++ r))
     → HasFirstFault (P m) L mid fault → HasFirstFault Q M old fault
@@ -330,9 +354,11 @@ later_fault P Q L M n m old mid front fault same taken step room h =
     (λ f. rw same (step a.ending a.bytes f))) h
 
 -- the fault of the line after some items, line m, is the first of their lines
-pub item_fault : {A : Type 0} (format : Format A) (items : List A) (n m k : ℕ) (old mid : Left) (fault : TextFault) → HaveLines format items
+pub item_fault : {A : Type 0} (format : Format A) (items : List A) (n m k : ℕ) (old mid : Left) (fault : TextFault)
+    → HaveLines format items
     → k ≡ length items → m ≡ n + k → IsOfInput fault → Takes old mid (lines_of format items)
-    → FaultAtFront (λ end f front. item_at_front format m k end front ≡ Err f) mid fault → HasItemsFault format n old fault
+    → FaultAtFront (λ end f front. item_at_front format m k end front ≡ Err f) mid fault
+    → HasItemsFault format n old fault
 item_fault format items n m k old mid fault right count same of_input taken h =
     line_fault (λ j e r f. item_at_front format j k e (front_of r) ≡ Err f) (λ e b f. ItemFault format n e f b) (NoRoom format) (n + k) m old mid
     (lines_of format items) fault same of_input taken
@@ -345,7 +371,8 @@ item_fault format items n m k old mid fault right count same of_input taken h =
     }) h
 
 -- the fault of the line after fewer items than were counted is the first of their lines
-pub among_fault : {A : Type 0} (format : Format A) (many : ℕ) (items : List A) (n m : ℕ) (old mid : Left) (fault : TextFault)
+pub among_fault : {A : Type 0} (format : Format A) (many : ℕ) (items : List A) (n m : ℕ) (old mid : Left)
+    (fault : TextFault)
     → AllByRecursion format.HasLine items → length items < many → m ≡ n + length items → IsOfInput fault → Takes old mid (lines_of format items)
     → FaultAtFront (λ end f front. line_at_front format.read m end front ≡ Err f) mid fault → HasFaultAmong format many n old fault
 among_fault format many items n m old mid fault each fewer same of_input taken h =
@@ -356,20 +383,24 @@ among_fault format many items n m old mid fault each fewer same of_input taken h
 -- ---- one more item
 
 -- one more item, if there is room for it
-pub HaveLines-push : {A : Type 0} (format : Format A) (items : List A) (x : A) → HaveLines format items → format.HasLine x → length items < format.most
+pub HaveLines-push : {A : Type 0} (format : Format A) (items : List A) (x : A) → HaveLines format items
+    → format.HasLine x → length items < format.most
     → HaveLines format (items ++ x ∷ [])
 HaveLines-push format items x right last few =
     grind (arith, nat_tests, common_steps, recursion_from_All, All-push, All-from_recursion, length-append)
 
 -- the lines of the items so far and of one more are taken
-pub takes_item : {A : Type 0} (format : Format A) (items : List A) (x : A) (old mid new : Left) → Takes old mid (lines_of format items)
+pub takes_item : {A : Type 0} (format : Format A) (items : List A) (x : A) (old mid new : Left)
+    → Takes old mid (lines_of format items)
     → Takes mid new (line_of format x) → Takes old new (lines_of format (items ++ x ∷ []))
 takes_item format items x old mid new h k =
     rw (flat_map-append (line_of format) items (x ∷ []), append-nil (line_of format x)) (Takes-append old mid new _ _ h k)
 
 -- one more item than there is room for, among those that were counted
-pub no_room_among : {A : Type 0} (format : Format A) (k : ℕ) (items : List A) (x : A) (old mid new : Left) → HaveLines format items
-    → Takes old mid (lines_of format items) → length items < k → k ≤ format.most → format.HasLine x → Takes mid new (line_of format x)
+pub no_room_among : {A : Type 0} (format : Format A) (k : ℕ) (items : List A) (x : A) (old mid new : Left)
+    → HaveLines format items
+    → Takes old mid (lines_of format items) → length items < k → k ≤ format.most → format.HasLine x
+    → Takes mid new (line_of format x)
     → OfLeft old (λ a. NoRoomAmong format k a.bytes)
 no_room_among format k items x old mid new right taken fewer most has now =
     let some = some_left new in
@@ -390,7 +421,8 @@ no_room_among format k items x old mid new right taken fewer most has now =
 
 -- one more item than there may be
 pub no_room : {A : Type 0} (format : Format A) (items : List A) (x : A) (old mid new : Left) → HaveLines format items
-    → Takes old mid (lines_of format items) → length items < format.most → format.HasLine x → Takes mid new (line_of format x)
+    → Takes old mid (lines_of format items) → length items < format.most → format.HasLine x
+    → Takes mid new (line_of format x)
     → OfLeft old (λ a. NoRoom format a.bytes)
 no_room format items x old mid new right taken few range now =
     let lacks = no_room_among format format.most items x old mid new right taken few (omega arith) range now in
@@ -417,7 +449,8 @@ other_version old new bytes taken part other =
 
 -- the fault of a line after those before the events is the first of the text
 pub event_is_first : (version : Version) (initial : List ℕ) (lines n : ℕ) (old mid : Left) (fault : TextFault)
-    → n ≡ lines + count_before_events version initial + 1 → HaveValueLines version initial → Takes old mid (lines_before_events version initial)
+    → n ≡ lines + count_before_events version initial + 1 → HaveValueLines version initial
+    → Takes old mid (lines_before_events version initial)
     → HasItemsFault event_format n mid fault → HasTextFault lines old fault
 event_is_first One initial lines n old mid fault n_is right taken h =
     later_fault (λ m e r f. ItemFault event_format m e f r) (IsTextFault lines) (NoRoom event_format) NoRoomForText (lines + 2) n old mid

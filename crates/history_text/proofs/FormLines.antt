@@ -3,8 +3,10 @@
 use Rattle.history_text.proofs.Common.{[], a_value, all_digits, AllByRecursion, and_right, ap, AreOfForm, arith}
 use Rattle.history_text.proofs.Common.{begins_as_end, bytes_eq, claim_line_fields, claim_line_format, claim_line_in}
 use Rattle.history_text.proofs.Common.{ClaimLine, codes, count_fields, count_format, count_forms, count_in, decimal}
-use Rattle.history_text.proofs.Common.{decimal_digit, decimal_nonempty, decimal_step, Dequeue, draining, drop, drop_more}
-use Rattle.history_text.proofs.Common.{DequeueEmpty, empty_operation, end_in, end_line, end_ok, end_read, Ending, Enqueue, Err}
+use Rattle.history_text.proofs.Common.{decimal_digit, decimal_nonempty, decimal_step, Dequeue, draining, drop}
+use Rattle.history_text.proofs.Common.{drop_more}
+use Rattle.history_text.proofs.Common.{DequeueEmpty, empty_operation, end_in, end_line, end_ok, end_read, Ending}
+use Rattle.history_text.proofs.Common.{Enqueue, Err}
 use Rattle.history_text.proofs.Common.{event_format, event_forms, event_in, event_of, false, field_is_clean, FieldForm}
 use Rattle.history_text.proofs.Common.{fields_of, Format, front_of, get_or, greatest_value, has_bits, HasClaimLine}
 use Rattle.history_text.proofs.Common.{HasOperationLine, HasStepLine, HasValueInRange, Initial, initial_form}
@@ -37,7 +39,8 @@ pub end_is_part : (k : ℕ) → k < 2 ^ 64 → IsPartOfLine (codes "end " ++ dec
 end_is_part k small = grind (arith, field_is_clean, number_is_field, length-decimal-le)
 
 -- the last line is read
-pub end_front : {A : Type 0} (format : Format A) (n k : ℕ) (ending : Ending) (rest : List ℕ) → format.is_counted ≡ true → k < 2 ^ 64
+pub end_front : {A : Type 0} (format : Format A) (n k : ℕ) (ending : Ending) (rest : List ℕ) → format.is_counted ≡ true
+    → k < 2 ^ 64
     → item_at_front format n k ending (front_of (end_line k ++ rest)) ≡ Ok (None, rest)
 end_front format n k ending rest counted small =
     ap (item_at_front format n k ending) (whole (codes "end " ++ decimal k) rest (end_is_part k small)) ∙ rw (counted, end_read n k small) refl
@@ -45,24 +48,28 @@ end_front format n k ending rest counted small =
 -- ---- parsing the line of an item, and the last line
 
 -- the last line counts the items before it
-pub last_line_ok : {A : Type 0} (format : Format A) (n k : ℕ) (bytes field : List ℕ) → k < 2 ^ 64 → (format.is_counted && begins_as_end bytes) ≡ true
+pub last_line_ok : {A : Type 0} (format : Format A) (n k : ℕ) (bytes field : List ℕ) → k < 2 ^ 64
+    → (format.is_counted && begins_as_end bytes) ≡ true
     → field ≡ drop 4 bytes → Ok tt ≡ end_in n k field → IsItemLine format k bytes None
 last_line_ok format n k bytes field small last field_is e = grind (arith, end_ok, take-append-drop)
 
 -- the fault of the last line is that of its number
 pub last_line_faulty : {A : Type 0} (format : Format A) (n k : ℕ) (bytes field : List ℕ) (fault : TextFault)
-    → (format.is_counted && begins_as_end bytes) ≡ true → field ≡ drop 4 bytes → Err fault ≡ end_in n k field → Err fault ≡ item_in format n k bytes
+    → (format.is_counted && begins_as_end bytes) ≡ true → field ≡ drop 4 bytes → Err fault ≡ end_in n k field
+    → Err fault ≡ item_in format n k bytes
 last_line_faulty format n k bytes field fault last field_is e = grind arith
 
 -- an item's line is that of its fields
-pub item_line_ok : {A : Type 0} (format : Format A) (k : ℕ) (bytes : List ℕ) (item : A) → k < format.most → IsSpelled format (fields_of bytes) item
+pub item_line_ok : {A : Type 0} (format : Format A) (k : ℕ) (bytes : List ℕ) (item : A) → k < format.most
+    → IsSpelled format (fields_of bytes) item
     → IsItemLine format k bytes (Some item)
 item_line_ok format k bytes item few spelled = (ap line (sym (join_with_byte-slice_split 32 bytes) ∙ ap spaced spelled.text), spelled.line, few)
 
 -- ---- lines parsed by a table
 
 -- the fields are a line, which is read as this item
-pub record IsReadAs {A : Type 0} (read : ℕ → List (List ℕ) → Result A TextFault) (fields : List (List ℕ)) (item : A) : Type 0 where
+pub record IsReadAs {A : Type 0} (read : ℕ → List (List ℕ) → Result A TextFault) (fields : List (List ℕ))
+    (item : A) : Type 0 where
   pub one : IsLineOf fields
   pub read_back : (n : ℕ) → read n fields ≡ Ok item
 
@@ -77,7 +84,8 @@ infixr 5 ◌&◌
 abbrev pub ◌&◌ : {A B : Type 0} → A → B → A × B
 p & q = (p, q)
 
-of_numbers : (forms : List FieldForm) (P : List ℕ → Type 0) → ForNumbers forms P → (numbers : List ℕ) → AreOfForm forms numbers → P numbers
+of_numbers : (forms : List FieldForm) (P : List ℕ → Type 0) → ForNumbers forms P → (numbers : List ℕ)
+    → AreOfForm forms numbers → P numbers
 of_numbers [] P each [] h = each
 of_numbers [] P each (v ∷ vs) h = absurd h
 of_numbers (Word word ∷ forms) P each numbers h = of_numbers forms P each numbers h
@@ -86,8 +94,10 @@ of_numbers (Number least greatest ∷ forms) P each (v ∷ vs) h = of_numbers fo
 
 module _ {T A : Type 0} (table : Table T) (make : T → List ℕ → A) where
   -- the text that a row of the table writes is read back
-  pub row_back : (what : T) (form : List FieldForm) (numbers : List ℕ) → list_all has_bits form ≡ true → is_line_form form ≡ true
-      → ((n : ℕ) → parse_line n table (spelled form numbers) ≡ (numbers_in n form (spelled form numbers) >>= λ found. Ok (what, found)))
+  pub row_back : (what : T) (form : List FieldForm) (numbers : List ℕ) → list_all has_bits form ≡ true
+      → is_line_form form ≡ true
+      → ((n : ℕ) → parse_line n table (spelled form numbers)
+      ≡ (numbers_in n form (spelled form numbers) >>= λ found. Ok (what, found)))
       → AreOfForm form numbers → IsReadAs (read_by table make) (spelled form numbers) (make what numbers)
   row_back what form numbers bits is_line finds within = record {
     one = spelled_is_line form numbers is_line within;
@@ -98,10 +108,14 @@ module _ {T A : Type 0} (table : Table T) (make : T → List ℕ → A) where
 -- each row of a table writes the line of its item
 pub record Spells {T A : Type 0} (format : Format A) (table : Table T) (make : T → List ℕ → A) : Type 0 where
   pub bits : list_all (λ row. list_all has_bits row.1) table ≡ true
-  pub rows : AllByRecursion (λ row. ForNumbers row.1 (λ numbers. IsSpelled format (spelled row.1 numbers) (make row.0 numbers))) table
+  pub rows : AllByRecursion
+      (λ row. ForNumbers row.1 (λ numbers. IsSpelled format (spelled row.1 numbers) (make row.0 numbers))) table
 
-module _ {T A : Type 0} {format : Format A} {table : Table T} {make : T → List ℕ → A} (spells : Spells format table make) where
-  each_row : (rows : Table T) → AllByRecursion (λ row. ForNumbers row.1 (λ numbers. IsSpelled format (spelled row.1 numbers) (make row.0 numbers))) rows
+module _ {T A : Type 0} {format : Format A} {table : Table T} {make : T → List ℕ → A}
+    (spells : Spells format table make) where
+  each_row : (rows : Table T)
+      → AllByRecursion (λ row. ForNumbers row.1
+      (λ numbers. IsSpelled format (spelled row.1 numbers) (make row.0 numbers))) rows
       → AllByRecursion (λ row. (numbers : List ℕ) → AreOfForm row.1 numbers → IsSpelled format (spelled row.1 numbers) (make row.0 numbers)) rows
   each_row [] all = tt
   each_row (row ∷ rows) all = grind (arith, of_numbers, each_row rows all.1)
@@ -118,7 +132,8 @@ IsReadBack {A} format = (n k : ℕ) (ending : Ending) (item : A) (rest : List �
     → item_at_front format n k ending (front_of (line_of format item ++ rest)) ≡ Ok (Some item, rest)
 
 -- an item whose line is read back is read at the front
-pub item_read : {A : Type 0} (format : Format A) → ((item : A) → format.HasLine item → IsReadAs format.read (format.fields item) item)
+pub item_read : {A : Type 0} (format : Format A)
+    → ((item : A) → format.HasLine item → IsReadAs format.read (format.fields item) item)
     → IsReadBack format
 item_read format back n k ending item rest has few = grind (arith, and_right, whole)
 
@@ -127,7 +142,8 @@ abbrev pub Says : {A : Type 0} → (ℕ → List (List ℕ) → Result A TextFau
 Says read text said = (n : ℕ) (ending : Ending) (rest : List ℕ) → line_at_front read n ending (front_of (text ++ rest)) ≡ Ok (said, rest)
 
 -- a line that is read back is read as its item
-pub line_read : {A : Type 0} (read : ℕ → List (List ℕ) → Result A TextFault) (fields : List (List ℕ)) (said : A) → IsReadAs read fields said
+pub line_read : {A : Type 0} (read : ℕ → List (List ℕ) → Result A TextFault) (fields : List (List ℕ)) (said : A)
+    → IsReadAs read fields said
     → Says read (line (spaced fields)) said
 line_read read fields said is n ending rest = grind (arith, whole)
 
@@ -167,7 +183,8 @@ count_says k few =
 -- ---- events
 
 event_row : (t th : ℕ) (what : What) → t ≤ MAX_TICKET → th ≤ MAX_THREAD → HasValueInRange what
-    → IsSpelled event_format (decimal t ∷ decimal th ∷ what_fields what) (record { ticket = t; thread = th; what = what })
+    → IsSpelled event_format (decimal t ∷ decimal th ∷ what_fields what)
+    (record { ticket = t; thread = th; what = what })
 event_row t th what a b range = record { text = refl; line = record { ticket = a; thread = b; value = range } }
 
 -- the fields of an event are spelled as they are written
@@ -195,7 +212,8 @@ event_front = item_read event_format (λ e range. event_back e.ticket e.thread r
 -- ---- lines are spelled as they are read
 
 operation_row : (c r t : ℕ) (kind : OpKind) → c ≤ MAX_TICKET → r ≤ MAX_TICKET → t ≤ MAX_THREAD → IsKindInRange kind
-    → IsSpelled operation_format (decimal c ∷ decimal r ∷ decimal t ∷ kind_fields kind) (record { call = c; ret = r; thread = t; kind = kind })
+    → IsSpelled operation_format (decimal c ∷ decimal r ∷ decimal t ∷ kind_fields kind)
+    (record { call = c; ret = r; thread = t; kind = kind })
 operation_row c r t kind a b few range = record { text = refl; line = record { call = a; ret = b; thread = few; value = range } }
 
 -- the fields of an operation are spelled as they are written
@@ -213,7 +231,8 @@ abbrev read_operation : ℕ → List (List ℕ) → Result Operation TextFault
 read_operation n fields = read_by operation_forms operation_of n fields
 
 module _ (c r t : ℕ) (a : c ≤ MAX_TICKET) (b : r ≤ MAX_TICKET) (few : t ≤ MAX_THREAD) where
-  valued_back : (v : ℕ) (word : List ℕ) (kind : OpKind) → v ≤ greatest_value → is_line_form (valued_operation word) ≡ true
+  valued_back : (v : ℕ) (word : List ℕ) (kind : OpKind) → v ≤ greatest_value
+      → is_line_form (valued_operation word) ≡ true
       → ((n : ℕ) → parse_line n operation_forms (decimal c ∷ decimal r ∷ decimal t ∷ word ∷ decimal v ∷ [])
       ≡ (numbers_in n (valued_operation word) (decimal c ∷ decimal r ∷ decimal t ∷ word ∷ decimal v ∷ []) >>= λ found. Ok (kind, found)))
       → IsReadAs read_operation (decimal c ∷ decimal r ∷ decimal t ∷ word ∷ decimal v ∷ []) (operation_of kind (c ∷ r ∷ t ∷ v ∷ []))
@@ -221,13 +240,15 @@ module _ (c r t : ℕ) (a : c ≤ MAX_TICKET) (b : r ≤ MAX_TICKET) (few : t �
       row_back operation_forms operation_of kind (valued_operation word) (c ∷ r ∷ t ∷ v ∷ []) refl is_line finds (search rules)
 
   kind_back : (kind : OpKind) → IsKindInRange kind
-      → IsReadAs read_operation (decimal c ∷ decimal r ∷ decimal t ∷ kind_fields kind) (record { call = c; ret = r; thread = t; kind = kind })
+      → IsReadAs read_operation (decimal c ∷ decimal r ∷ decimal t ∷ kind_fields kind)
+      (record { call = c; ret = r; thread = t; kind = kind })
   kind_back (Enqueue v) range = valued_back v (codes "enq") (Enqueue 0) range refl (λ n. refl)
   kind_back (Dequeue v) range = valued_back v (codes "deq") (Dequeue 0) range refl (λ n. refl)
   kind_back DequeueEmpty range = row_back operation_forms operation_of DequeueEmpty empty_operation (c ∷ r ∷ t ∷ []) refl refl (λ n. refl) (search rules)
   kind_back (EnqueueFailed v) range = valued_back v (codes "not") (EnqueueFailed 0) range refl (λ n. refl)
 
-digits_are_other : (ds : List ℕ) → 0 < length ds → list_all is_ascii_digit ds ≡ true → bytes_eq ds (codes "init") ≡ false
+digits_are_other : (ds : List ℕ) → 0 < length ds → list_all is_ascii_digit ds ≡ true
+    → bytes_eq ds (codes "init") ≡ false
 digits_are_other [] some all = absurd (omega (arith, some))
 digits_are_other (d ∷ ds) some all = grind arith
 
@@ -276,7 +297,8 @@ module _ (t : ℕ) (few : t ≤ MAX_THREAD) where
       → IsReadAs step_in (word ∷ decimal t ∷ []) (step_of step (t ∷ []))
   plain_back word step is_line finds = row_back step_forms step_of step (plain_step word) (t ∷ []) refl is_line finds (omega arith, few, tt)
 
-  saying_back : (answer : Answer) → IsAnswerInRange answer → IsReadAs step_in (step_fields (Say t answer)) (Say t answer)
+  saying_back : (answer : Answer) → IsAnswerInRange answer
+      → IsReadAs step_in (step_fields (Say t answer)) (Say t answer)
   saying_back reply.Taken range =
       row_back step_forms step_of (Say 0 reply.Taken) (plain_saying (codes "taken")) (t ∷ []) refl refl (λ n. refl) (search rules)
   saying_back reply.Not range =
@@ -300,7 +322,8 @@ pub step_front : IsReadBack step_format
 step_front = item_read step_format step_back
 
 -- the line of a setting is read as that setting
-pub setting_says : (threads ring : ℕ) → IsSetting threads ring → Says setting_in (line (spaced (setting_fields threads ring))) (threads, ring)
+pub setting_says : (threads ring : ℕ) → IsSetting threads ring
+    → Says setting_in (line (spaced (setting_fields threads ring))) (threads, ring)
 setting_says threads ring within = line_read setting_in (setting_fields threads ring) (threads, ring)
     (row_back setting_forms setting_of tt setting_form (threads ∷ ring ∷ []) refl refl (λ n. refl)
     (within.some_threads, within.few_threads, (within.some_room, within.little_room, tt)))
@@ -329,5 +352,6 @@ module _ (bytes : List ℕ) (at : ℕ) (fits : (place : ℕ) → get_or bytes pl
   one_digit long space digit = grind (arith, byte_then, back, decimal_digit)
 
   pub two_digits : at + 3 ≤ length bytes → get_or bytes (at + 2) 0 ≡ 32 → 1 ≤ digit_at at → digit_at at < 10
-      → digit_at (at + 1) < 10 → drop at bytes ≡ decimal (digit_at at * 10 + digit_at (at + 1)) ++ 32 ∷ drop (at + 3) bytes
+      → digit_at (at + 1) < 10 → drop at bytes ≡ decimal (digit_at at * 10 + digit_at (at + 1)) ++ 32
+      ∷ drop (at + 3) bytes
   two_digits long space some ten one = grind (arith, byte_then, back, decimal_step, decimal_digit)

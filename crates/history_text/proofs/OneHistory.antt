@@ -7,7 +7,8 @@ use Rattle.history_text.proofs.Common.{lines_to_end, List, MAX_INITIAL, NoVersio
 use Rattle.history_text.proofs.Common.{text_by, text_of, TextFault, Two, value_format, Version, ℕ, ◌++◌, ◌+◌, ◌>>=◌}
 use Rattle.history_text.proofs.Common.{◌∙◌, ◌∷◌, ◌≡◌, ◌≤◌}
 use Rattle.history_text.proofs.FormLines.{event_front, value_says, count_says}
-use Rattle.history_text.proofs.FirstFaults.{then_ok, then_err, first_at, first_read, items_in, counted_read, fault_found, among_in, among_read, among_found, IsJudged, Anything}
+use Rattle.history_text.proofs.FirstFaults.{then_ok, then_err, first_at, first_read, items_in, counted_read}
+use Rattle.history_text.proofs.FirstFaults.{fault_found, among_in, among_read, among_found, IsJudged, Anything}
 
 -- ---- the input, judged line by line
 
@@ -55,7 +56,8 @@ module _ (n : ℕ) (ending : Ending) where
   count_then k rest few = then_ok _ _ _ (count_says k few n ending rest)
 
   values_then : (initial rest : List ℕ) → HaveLines value_format initial
-      → after_header Two n ending (lines_of_initial initial ++ rest) ≡ events_in Two initial (n + 1 + length initial) ending rest
+      → after_header Two n ending (lines_of_initial initial ++ rest)
+      ≡ events_in Two initial (n + 1 + length initial) ending rest
   values_then initial rest right = grind (arith, append_assoc, count_then, then_ok, among_read, value_says)
 
   module _ (version : Version) (initial : List ℕ) where
@@ -79,7 +81,8 @@ text_read lines ending Two initial events rest right text = grind (arith, append
 
 -- ---- a first fault is found
 
-later_found : (version : Version) (n : ℕ) (ending : Ending) (fault : TextFault) (bytes : List ℕ) → FaultAfterHeader version n ending fault bytes
+later_found : (version : Version) (n : ℕ) (ending : Ending) (fault : TextFault) (bytes : List ℕ)
+    → FaultAfterHeader version n ending fault bytes
     → after_header version n ending bytes ≡ Err fault
 later_found One n ending fault bytes h = events_found n ending One [] fault bytes h
 later_found Two n ending fault bytes (inl (inl h)) = then_err _ _ _ h

@@ -1,9 +1,13 @@
 -- An input is read as one text in which calls may be pending, as a part of one, or has one first fault.
-use Rattle.history_text.proofs.Common.{[], Ahead, ap, append-nil, append_assoc, arith, count_before_events, count_in, Ending, EndOfInput, Err}
+use Rattle.history_text.proofs.Common.{[], Ahead, ap, append-nil, append_assoc, arith, count_before_events, count_in}
+use Rattle.history_text.proofs.Common.{Ending, EndOfInput, Err}
 use Rattle.history_text.proofs.Common.{Event, event_format, false, Front, front_of, HasEventLine, HasText, HaveLines}
-use Rattle.history_text.proofs.Common.{HaveValueLines, Header, header_of, HistoryText, inl, inr, length, line, line_at_front}
-use Rattle.history_text.proofs.Common.{line_of, lines_of, lines_of_initial, List, MAX_EVENTS, MAX_INITIAL, None, Ok, One, Option, refl}
-use Rattle.history_text.proofs.Common.{Result, Some, spaced, suc, sym, text_of, TextFault, true, Two, value_format, Version, ℕ}
+use Rattle.history_text.proofs.Common.{HaveValueLines, Header, header_of, HistoryText, inl, inr, length, line}
+use Rattle.history_text.proofs.Common.{line_at_front}
+use Rattle.history_text.proofs.Common.{line_of, lines_of, lines_of_initial, List, MAX_EVENTS, MAX_INITIAL, None, Ok}
+use Rattle.history_text.proofs.Common.{One, Option, refl}
+use Rattle.history_text.proofs.Common.{Result, Some, spaced, suc, sym, text_of, TextFault, true, Two, value_format}
+use Rattle.history_text.proofs.Common.{Version, ℕ}
 use Rattle.history_text.proofs.Common.{◌++◌, ◌+◌, ◌<◌, ◌>>=◌, ◌∙◌, ◌∷◌, ◌≡◌, ◌≤◌}
 use Rattle.history_text.proofs.FirstFaults.{Anything, IsJudged}
 use Rattle.history_text.proofs.FirstFaults.{among_found, among_in, among_read, first_at, first_read, items_from}
@@ -11,7 +15,8 @@ use Rattle.history_text.proofs.FirstFaults.{items_read, then_err, then_ok}
 use Rattle.history_text.proofs.FormLines.{count_says, value_says}
 use Rattle.history_text.proofs.PendingLines.{event_line_read, last_line_read, stop_line_read}
 use Rattle.history_text.specs.Inner.Pending.{IsStop}
-use Rattle.history_text.specs.Pending.{as_pending, event_line_in, EventsFault, FaultAfterEvents, FaultAfterFirst, first_line_of}
+use Rattle.history_text.specs.Pending.{as_pending, event_line_in, EventsFault, FaultAfterEvents, FaultAfterFirst}
+use Rattle.history_text.specs.Pending.{first_line_of}
 use Rattle.history_text.specs.Pending.{HasPendingText, IsCutText, IsPendingTextFault, last_line_in, lines_after_stop}
 use Rattle.history_text.specs.Pending.{NoFirstLine, pending_text, stop_line, value_lines, whole_line_at_front}
 use Rattle.history_text.specs.Versions.{count_fields}
@@ -63,7 +68,8 @@ module _ (is_pending : Bool) (version : Version) (initial : List ℕ) (n : ℕ) 
   events_in bytes = items_from step (suc MAX_EVENTS) 0 bytes >>= λ es. Ok (stopped es.0 (line_after (length es.0) es.1))
 
   -- events are read up to a line that is none
-  events_then : (events : List Event) (r : List ℕ) → HaveLines event_format events → next_event r (line_after (length events) r) ≡ Ok (None, r)
+  events_then : (events : List Event) (r : List ℕ) → HaveLines event_format events
+      → next_event r (line_after (length events) r) ≡ Ok (None, r)
       → events_in (lines_of event_format events ++ r) ≡ Ok (stopped events (line_after (length events) r))
   events_then events r right at =
       let few = right.few in
@@ -72,8 +78,10 @@ module _ (is_pending : Bool) (version : Version) (initial : List ℕ) (n : ℕ) 
       right.each (omega arith) few (omega (arith, few)) at)
 
   -- events are read up to the line at which they stop
-  stop_then : (events : List Event) (calls : Option ℕ) (r : List ℕ) → HaveLines event_format events → IsStop is_pending calls
-      → events_in (lines_of event_format events ++ (stop_line calls (length events) ++ r)) ≡ Ok (after_stop events calls r)
+  stop_then : (events : List Event) (calls : Option ℕ) (r : List ℕ) → HaveLines event_format events
+      → IsStop is_pending calls
+      → events_in (lines_of event_format events ++ (stop_line calls (length events) ++ r))
+      ≡ Ok (after_stop events calls r)
   stop_then events calls r right stop =
       let few = right.few in
       let read = stop_line_read is_pending (n + length events) (length events) ending calls r stop (omega (arith, few)) in
@@ -81,8 +89,10 @@ module _ (is_pending : Bool) (version : Version) (initial : List ℕ) (n : ℕ) 
       ∙ ap (λ found. Ok (stopped events found)) read
 
   -- whole lines are read
-  pub events_read : (events : List Event) (calls : Option ℕ) (rest : List ℕ) → HaveLines event_format events → IsStop is_pending calls
-      → events_in (lines_of event_format events ++ (stop_line calls (length events) ++ (lines_after_stop calls (length events) ++ rest)))
+  pub events_read : (events : List Event) (calls : Option ℕ) (rest : List ℕ) → HaveLines event_format events
+      → IsStop is_pending calls
+      → events_in (lines_of event_format events
+      ++ (stop_line calls (length events) ++ (lines_after_stop calls (length events) ++ rest)))
       ≡ Ok (text_with events calls, Ok rest)
   events_read events None rest right stop = stop_then events None rest right stop
   events_read events (Some calls) rest right stop =
@@ -93,7 +103,8 @@ module _ (is_pending : Bool) (version : Version) (initial : List ℕ) (n : ℕ) 
 
   -- the first fault of the lines of events is found
   pub events_found : (fault : TextFault) (bytes : List ℕ) (events : List Event) (calls : Option ℕ)
-      → FaultAfterEvents is_pending n ending fault bytes events calls → events_in bytes ≡ Ok (text_with events calls, Err fault)
+      → FaultAfterEvents is_pending n ending fault bytes events calls
+      → events_in bytes ≡ Ok (text_with events calls, Err fault)
   events_found fault bytes events None h =
       ap events_in h.front ∙ events_then events h.rest h.right (ap (next_event h.rest) h.next) ∙ ap (λ found. Ok (stopped events found)) h.next
   events_found fault bytes events (Some calls) h =
@@ -121,7 +132,8 @@ abbrev pub pending_in : ℕ → Ending → List ℕ → Result Said TextFault
 pending_in lines ending bytes = first_at first_lines Header ending (front_of bytes) >>= λ first. after_first first.0.0 first.0.1 (lines + 2) ending first.1
 
 first_line_read : (is_pending : Bool) (version : Version) (ending : Ending) (rest : List ℕ)
-    → first_at first_lines Header ending (front_of (line (first_line_of is_pending version) ++ rest)) ≡ Ok ((is_pending, version), rest)
+    → first_at first_lines Header ending (front_of (line (first_line_of is_pending version) ++ rest))
+    ≡ Ok ((is_pending, version), rest)
 first_line_read false One ending rest = first_read first_lines Header ending (false, One) (first_line_of false One) rest refl (omega arith) refl
 first_line_read false Two ending rest = first_read first_lines Header ending (false, Two) (first_line_of false Two) rest refl (omega arith) refl
 first_line_read true One ending rest = first_read first_lines Header ending (true, One) (first_line_of true One) rest refl (omega arith) refl
@@ -136,18 +148,22 @@ no_first_line ending fault front h =
     let d = h true Two in grind (arith, a, b, c, d)
 
 first_then : (is_pending : Bool) (version : Version) (lines : ℕ) (ending : Ending) (rest : List ℕ)
-    → pending_in lines ending (line (first_line_of is_pending version) ++ rest) ≡ after_first is_pending version (lines + 2) ending rest
+    → pending_in lines ending (line (first_line_of is_pending version) ++ rest)
+    ≡ after_first is_pending version (lines + 2) ending rest
 first_then is_pending version lines ending rest = then_ok _ _ _ (first_line_read is_pending version ending rest)
 
 module _ (is_pending : Bool) (n : ℕ) (ending : Ending) where
   -- the line that counts the initial values is read
   count_then : (k : ℕ) (rest : List ℕ) → k ≤ MAX_INITIAL
-      → after_first is_pending Two n ending (line (spaced (count_fields k)) ++ rest) ≡ values_in is_pending k (n + 1) ending rest
+      → after_first is_pending Two n ending (line (spaced (count_fields k)) ++ rest)
+      ≡ values_in is_pending k (n + 1) ending rest
   count_then k rest few = then_ok _ _ _ (count_says k few n ending rest)
 
   -- the initial values are read
-  values_then : (version : Version) (initial rest : List ℕ) (m : ℕ) → m + 1 ≡ n + count_before_events version initial → HaveValueLines version initial
-      → after_first is_pending version n ending (value_lines version initial ++ rest) ≡ events_in is_pending version initial m ending rest
+  values_then : (version : Version) (initial rest : List ℕ) (m : ℕ) → m + 1 ≡ n + count_before_events version initial
+      → HaveValueLines version initial
+      → after_first is_pending version n ending (value_lines version initial ++ rest)
+      ≡ events_in is_pending version initial m ending rest
   values_then One initial rest m same none =
       let here : n ≡ m = omega (arith, same) in rw (none, here) refl
   values_then Two initial rest m same right =
@@ -179,7 +195,8 @@ whole_said lines ending t rest has =
     ∙ events_read kind t.version t.initial m ending t.events t.open_calls rest has.events (record { of_kind = refl; few = has.few_open })
 
 -- a text that is cut off is read as far as it goes
-pub cut_said : (lines : ℕ) (input : Ahead) (t : PendingText) → IsCutText lines input t → pending_in lines input.ending input.bytes ≡ Ok (t, Err Cut)
+pub cut_said : (lines : ℕ) (input : Ahead) (t : PendingText) → IsCutText lines input t
+    → pending_in lines input.ending input.bytes ≡ Ok (t, Err Cut)
 cut_said lines input t is =
     let first = line (first_line_of is.is_pending t.version) in
     let values = value_lines t.version t.initial in
@@ -195,7 +212,8 @@ cut_said lines input t is =
 abbrev pub IsFound : Bool → TextFault → Result Said TextFault → Type 0
 IsFound takes_cut fault found = (found ≡ Err fault) ⊎ ((t : PendingText) × (found ≡ Ok (t, Err fault)) × (takes_cut ≡ true → fault ≢ Cut))
 
-events_fault : (takes_cut is_pending : Bool) (version : Version) (initial : List ℕ) (n : ℕ) (ending : Ending) (fault : TextFault) (bytes : List ℕ)
+events_fault : (takes_cut is_pending : Bool) (version : Version) (initial : List ℕ) (n : ℕ) (ending : Ending)
+    (fault : TextFault) (bytes : List ℕ)
     → EventsFault takes_cut is_pending n ending fault bytes → IsFound takes_cut fault (events_in is_pending version initial n ending bytes)
 events_fault takes_cut is_pending version initial n ending fault bytes (events, calls, h, not_cut) =
     inr (text_with version initial events calls, events_found is_pending version initial n ending fault bytes events calls h, not_cut)
@@ -203,10 +221,12 @@ events_fault takes_cut is_pending version initial n ending fault bytes (events, 
     text_with : Version → List ℕ → List Event → Option ℕ → PendingText
     text_with v i es c = record { version = v; initial = i; events = es; open_calls = c }
 
-moved_found : (takes_cut : Bool) (fault : TextFault) (a b : Result Said TextFault) → a ≡ b → IsFound takes_cut fault b → IsFound takes_cut fault a
+moved_found : (takes_cut : Bool) (fault : TextFault) (a b : Result Said TextFault) → a ≡ b → IsFound takes_cut fault b
+    → IsFound takes_cut fault a
 moved_found takes_cut fault a b same h = rw same h
 
-later_fault : (takes_cut is_pending : Bool) (version : Version) (n : ℕ) (ending : Ending) (fault : TextFault) (bytes : List ℕ)
+later_fault : (takes_cut is_pending : Bool) (version : Version) (n : ℕ) (ending : Ending) (fault : TextFault)
+    (bytes : List ℕ)
     → FaultAfterFirst takes_cut is_pending version n ending fault bytes → IsFound takes_cut fault (after_first is_pending version n ending bytes)
 later_fault takes_cut is_pending One n ending fault bytes h = events_fault takes_cut is_pending One [] n ending fault bytes h
 later_fault takes_cut is_pending Two n ending fault bytes (inl (inl h)) = inl (then_err _ _ _ h)
@@ -233,33 +253,39 @@ after_said (Ok said) = said.1
 after_said (Err fault) = Err fault
 
 -- no input is both whole and faulty
-not_both : (s t : PendingText) (rest : List ℕ) (fault : TextFault) (found : Result Said TextFault) → found ≡ Ok (s, Ok rest) → found ≡ Ok (t, Err fault) → ⊥
+not_both : (s t : PendingText) (rest : List ℕ) (fault : TextFault) (found : Result Said TextFault)
+    → found ≡ Ok (s, Ok rest) → found ≡ Ok (t, Err fault) → ⊥
 not_both s t rest fault found whole faulty =
     let both : Ok rest ≡ Err fault = ap after_said (sym whole ∙ faulty) in cc
 
-not_before : (said : Said) (fault : TextFault) (found : Result Said TextFault) → found ≡ Ok said → found ≡ Err fault → ⊥
+not_before : (said : Said) (fault : TextFault) (found : Result Said TextFault) → found ≡ Ok said → found ≡ Err fault
+    → ⊥
 not_before said fault found read faulty = let both : Ok said ≡ Err fault = sym read ∙ faulty in cc
 
 -- whole texts that one input begins with are equal
-pub one_whole : (s t : PendingText) (q r : List ℕ) → HasPendingText s → HasPendingText t → pending_text s ++ q ≡ pending_text t ++ r → (s ≡ t) × (q ≡ r)
+pub one_whole : (s t : PendingText) (q r : List ℕ) → HasPendingText s → HasPendingText t
+    → pending_text s ++ q ≡ pending_text t ++ r → (s ≡ t) × (q ≡ r)
 one_whole s t q r has_s has_t same =
     let both : Ok (s, Ok q) ≡ Ok (t, Ok r) =
     sym (whole_said 0 EndOfInput s q has_s) ∙ ap (pending_in 0 EndOfInput) same ∙ whole_said 0 EndOfInput t r has_t in grind (arith, both)
 
 -- an input is a part of one text only
-pub one_cut : (lines : ℕ) (input : Ahead) (s t : PendingText) → IsCutText lines input s → IsCutText lines input t → s ≡ t
+pub one_cut : (lines : ℕ) (input : Ahead) (s t : PendingText) → IsCutText lines input s → IsCutText lines input t
+    → s ≡ t
 one_cut lines input s t is_s is_t =
     let both = sym (cut_said lines input s is_s) ∙ cut_said lines input t is_t in grind (arith, both)
 
 -- a whole text isn't cut off
-pub whole_or_cut : (lines : ℕ) (input : Ahead) (s t : PendingText) (rest : List ℕ) → HasPendingText s → input.bytes ≡ pending_text s ++ rest
+pub whole_or_cut : (lines : ℕ) (input : Ahead) (s t : PendingText) (rest : List ℕ) → HasPendingText s
+    → input.bytes ≡ pending_text s ++ rest
     → IsCutText lines input t → ⊥
 whole_or_cut lines input s t rest has front is =
     not_both s t rest Cut (pending_in lines input.ending input.bytes) (ap (pending_in lines input.ending) front ∙ whole_said lines input.ending s rest has)
     (cut_said lines input t is)
 
 -- a whole text has no fault
-pub whole_or_fault : (takes_cut : Bool) (lines : ℕ) (ending : Ending) (t : PendingText) (rest : List ℕ) (fault : TextFault) → HasPendingText t
+pub whole_or_fault : (takes_cut : Bool) (lines : ℕ) (ending : Ending) (t : PendingText) (rest : List ℕ)
+    (fault : TextFault) → HasPendingText t
     → IsPendingTextFault takes_cut lines ending (pending_text t ++ rest) fault → ⊥
 whole_or_fault takes_cut lines ending t rest fault has h =
     let read = whole_said lines ending t rest has in
@@ -309,7 +335,8 @@ whole_of (Err fault) = Err fault
 abbrev pub whole_in : ℕ → Ending → List ℕ → Result (PendingText × List ℕ) TextFault
 whole_in lines ending bytes = whole_of (pending_in lines ending bytes)
 
-found_whole : (takes_cut : Bool) (fault : TextFault) (found : Result Said TextFault) → IsFound takes_cut fault found → whole_of found ≡ Err fault
+found_whole : (takes_cut : Bool) (fault : TextFault) (found : Result Said TextFault) → IsFound takes_cut fault found
+    → whole_of found ≡ Err fault
 found_whole takes_cut fault found (inl before) = ap whole_of before
 found_whole takes_cut fault found (inr after) = ap whole_of after.1
 

@@ -6,7 +6,8 @@ use Rattle.history_text.proofs.Common.{schedule_header, schedule_text, setting_i
 use Rattle.history_text.proofs.Common.{◌++◌, ◌+◌, ◌>>=◌, ◌∙◌, ◌∷◌, ◌≡◌}
 use Rattle.history_text.specs.declared.schedule.Schedule.{Schedule}
 use Rattle.history_text.proofs.FormLines.{step_front, setting_says}
-use Rattle.history_text.proofs.FirstFaults.{then_ok, then_err, first_at, first_read, items_in, counted_read, fault_found, IsJudged, Anything}
+use Rattle.history_text.proofs.FirstFaults.{then_ok, then_err, first_at, first_read, items_in, counted_read}
+use Rattle.history_text.proofs.FirstFaults.{fault_found, IsJudged, Anything}
 
 abbrev headers : List (Unit {0} × List ℕ)
 headers = (tt, schedule_header) ∷ []
@@ -24,10 +25,12 @@ after_header lines ending bytes = line_at_front setting_in (lines + 2) ending (f
 abbrev schedule_in : ℕ → Ending → List ℕ → Result (Schedule × List ℕ) TextFault
 schedule_in lines ending bytes = first_at headers Header ending (front_of bytes) >>= λ first. after_header lines ending first.1
 
-header_read : (ending : Ending) (rest : List ℕ) → first_at headers Header ending (front_of (line schedule_header ++ rest)) ≡ Ok (tt, rest)
+header_read : (ending : Ending) (rest : List ℕ)
+    → first_at headers Header ending (front_of (line schedule_header ++ rest)) ≡ Ok (tt, rest)
 header_read ending rest = first_read headers Header ending tt schedule_header rest refl (omega arith) refl
 
-no_header : (ending : Ending) (fault : TextFault) (front : Front) → header_fault schedule_header ending front ≡ Some fault
+no_header : (ending : Ending) (fault : TextFault) (front : Front)
+    → header_fault schedule_header ending front ≡ Some fault
     → first_at headers Header ending front ≡ Err fault
 no_header ending fault front h = grind (arith, h)
 
@@ -36,7 +39,8 @@ header_then : (lines : ℕ) (ending : Ending) (rest : List ℕ)
 header_then lines ending rest = grind (arith, then_ok, header_read)
 
 setting_then : (lines threads ring : ℕ) (ending : Ending) (rest : List ℕ) → IsSetting threads ring
-    → schedule_in lines ending (lines_before_steps threads ring ++ rest) ≡ steps_in (threads, ring) (lines + 3) ending rest
+    → schedule_in lines ending (lines_before_steps threads ring ++ rest)
+    ≡ steps_in (threads, ring) (lines + 3) ending rest
 setting_then lines threads ring ending rest within = grind (arith, append_assoc, header_then, then_ok, setting_says)
 
 read : (lines : ℕ) (ending : Ending) (s : Schedule) (rest : List ℕ) → HasScheduleText s → Anything ending rest
@@ -44,7 +48,8 @@ read : (lines : ℕ) (ending : Ending) (s : Schedule) (rest : List ℕ) → HasS
 read lines ending s rest text _ =
     grind (arith, nat_tests, append_assoc, setting_then, then_ok, counted_read, step_front, header_then, setting_says)
 
-found : (lines : ℕ) (ending : Ending) (bytes : List ℕ) (fault : TextFault) → IsScheduleTextFault lines ending bytes fault
+found : (lines : ℕ) (ending : Ending) (bytes : List ℕ) (fault : TextFault)
+    → IsScheduleTextFault lines ending bytes fault
     → schedule_in lines ending bytes ≡ Err fault
 found lines ending bytes fault (inl h) = grind (arith, then_err, no_header)
 found lines ending bytes fault (inr (inl (rest, is, h))) = ap (schedule_in lines ending) is ∙ header_then lines ending rest ∙ then_err _ _ _ h

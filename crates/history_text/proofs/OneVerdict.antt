@@ -11,7 +11,8 @@ use Rattle.claims.specs.declared.claimed.Claimed.{Claimed}
 use Rattle.claims.specs.declared.claimed.Claimed.TheVariants.{Yes, No}
 use Rattle.history_text.proofs.FormLines.{claim_line_front, IsReadBack, operation_front}
 use Rattle.history_text.proofs.FirstFaults as judging
-use Rattle.history_text.proofs.FirstFaults.{then_ok, then_err, first_at, first_read, none_with, items_in, all_read, fault_found, IsJudged, Stands}
+use Rattle.history_text.proofs.FirstFaults.{then_ok, then_err, first_at, first_read, none_with, items_in, all_read}
+use Rattle.history_text.proofs.FirstFaults.{fault_found, IsJudged, Stands}
 
 abbrev answers : List (Option ViolationKind × List ℕ)
 answers = (None, first_line None) ∷ (Some VFresh, first_line (Some VFresh)) ∷ (Some VRepeat, first_line (Some VRepeat))
@@ -56,12 +57,14 @@ answer_then : (answer : Option ViolationKind) (lines : ℕ) (ending : Ending) (r
 answer_then answer lines ending rest = then_ok _ _ _ (answer_read answer (lines + 1) ending rest)
 
 -- all lines up to the end of the input are read
-lines_read : {A : Type 0} (format : Format A) → IsReadBack format → format.is_counted ≡ false → (make : List A → Claimed) (n : ℕ) (xs : List A)
+lines_read : {A : Type 0} (format : Format A) → IsReadBack format → format.is_counted ≡ false
+    → (make : List A → Claimed) (n : ℕ) (xs : List A)
     → HaveLines format xs
     → (items_in format n EndOfInput (lines_of format xs ++ []) >>= made make) ≡ made make (xs, [])
 lines_read format back uncounted make n xs text = grind (arith, then_ok, all_read)
 
-text_read : (lines : ℕ) (c : Claimed) → HasVerdictText c → verdict_in lines EndOfInput (verdict_text c ++ []) ≡ Ok (c, [])
+text_read : (lines : ℕ) (c : Claimed) → HasVerdictText c
+    → verdict_in lines EndOfInput (verdict_text c ++ []) ≡ Ok (c, [])
 text_read lines (Yes xs) text = ap (verdict_in lines EndOfInput) (append_assoc (line (first_line None)) (lines_of operation_format xs) [])
     ∙ answer_then None lines EndOfInput _ ∙ lines_read operation_format operation_front refl Yes (lines + 2) xs text
 text_read lines (No kind xs) text = ap (verdict_in lines EndOfInput) (append_assoc (line (first_line (Some kind))) (lines_of claim_line_format xs) [])
@@ -71,14 +74,16 @@ read : (lines : ℕ) (ending : Ending) (c : Claimed) (rest : List ℕ) → HasVe
     → verdict_in lines ending (verdict_text c ++ rest) ≡ Ok (c, rest)
 read lines ending c rest text last = grind (arith, text_read)
 
-later_found : (answer : Option ViolationKind) (n : ℕ) (ending : Ending) (fault : TextFault) (bytes : List ℕ) → ClaimFault n ending fault answer bytes
+later_found : (answer : Option ViolationKind) (n : ℕ) (ending : Ending) (fault : TextFault) (bytes : List ℕ)
+    → ClaimFault n ending fault answer bytes
     → claim_in answer n ending bytes ≡ Err fault
 later_found None n ending fault bytes h = then_err _ _ _
     (fault_found operation_format operation_front n ending fault bytes h)
 later_found (Some kind) n ending fault bytes h = then_err _ _ _
     (fault_found claim_line_format claim_line_front n ending fault bytes h)
 
-found : (lines : ℕ) (ending : Ending) (bytes : List ℕ) (fault : TextFault) → IsVerdictTextFault lines ending bytes fault
+found : (lines : ℕ) (ending : Ending) (bytes : List ℕ) (fault : TextFault)
+    → IsVerdictTextFault lines ending bytes fault
     → verdict_in lines ending bytes ≡ Err fault
 found lines ending bytes fault (inl h) = then_err _ _ _ (no_answer _ ending fault _ h)
 found lines ending bytes fault (inr (answer, (rest, is, h))) = grind (arith, answer_then, later_found)
@@ -98,6 +103,7 @@ texts_agree c d text_c text_d same =
     (judging.texts_agree judged EndOfInput c d [] [] text_c text_d (refl, refl) (refl, refl) (ap (λ (t : List ℕ). t ++ []) same)).0
 
 -- a text of a verdict has no fault
-pub text_has_no_fault : (lines : ℕ) (c : Claimed) (fault : TextFault) → HasVerdictText c → IsVerdictTextFault lines EndOfInput (verdict_text c) fault → ⊥
+pub text_has_no_fault : (lines : ℕ) (c : Claimed) (fault : TextFault) → HasVerdictText c
+    → IsVerdictTextFault lines EndOfInput (verdict_text c) fault → ⊥
 text_has_no_fault lines c fault text h = judging.text_has_no_fault judged lines EndOfInput c [] fault text (refl, refl)
     (subst (λ (t : List ℕ). IsVerdictTextFault lines EndOfInput t fault) (sym (append-nil (verdict_text c))) h)

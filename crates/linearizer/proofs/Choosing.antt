@@ -31,7 +31,8 @@ use Rattle.std.proofs.Math.Seq.{drop-append_seam}
 use Rattle.history_merge.proofs.Lists.{at_place, some_of}
 
 -- a choice isn't dequeued after a value that remains
-pub no_later : (remaining : List Life) (x y : Life) → IsChoice remaining x → Contains remaining y → dequeue_call x ≤ dequeue_return x
+pub no_later : (remaining : List Life) (x y : Life) → IsChoice remaining x → Contains remaining y
+    → dequeue_call x ≤ dequeue_return x
     → dequeue_return y < dequeue_call x → ⊥
 no_later remaining x y is among takes_time later =
     let returned = least_at dequeue_return remaining is.first_dequeued y is.dequeued_first among in
@@ -41,7 +42,8 @@ no_later remaining x y is among takes_time later =
     ]
 
 -- no two values are dequeued against the order of their enqueues
-pub no_order_violation : (history : Contents) (lives : List Life) → IsClear (course_of history) → IsValueOrder (course_of history) lives
+pub no_order_violation : (history : Contents) (lives : List Life) → IsClear (course_of history)
+    → IsValueOrder (course_of history) lives
     → AreCalledInTime lives → NoOrderViolation (course_of history)
 no_order_violation history lives clear order in_time a b violation =
     let stands = stands_in_order (timeline_of history) lives (clear_on history.initial history.operations clear)
@@ -76,7 +78,8 @@ module _ (history : Contents) (values : List MatchedValue) (clear : IsClear (cou
       omega (arith, least, passed.too_late)
 
   -- so b is the first dequeued
-  dequeued_first : (dequeue_return passed.is_next.first_dequeued < leaves_from a) × (b.life ≡ passed.is_next.first_dequeued)
+  dequeued_first : (dequeue_return passed.is_next.first_dequeued < leaves_from a)
+      × (b.life ≡ passed.is_next.first_dequeued)
   dequeued_first = elim (made passed.remaining b.life passed.is_next) [
     | inl dequeued ↦ dequeued
     | inr entered ↦
@@ -118,13 +121,15 @@ module _ (history : Contents) (values : List MatchedValue) (clear : IsClear (cou
       none a b.life (record { is_a = is_a; is_b = is_b; is_dequeued = dequeued; overtakes = overtakes })
 
 -- the values of a matching have the times of lives
-pub each_has_times : (history : Contents) (values : List MatchedValue) → IsClear (course_of history) → HoldsValues history values
+pub each_has_times : (history : Contents) (values : List MatchedValue) → IsClear (course_of history)
+    → HoldsValues history values
     → All (λ value. HasLifeTimes value.life) values
 each_has_times history values clear holds k d within =
     history_times history clear _ (value_lives history.initial history.operations clear values holds _ (Contains-get_or values k d within))
 
 -- there are no more values than places
-pub few_values : (history : Contents) (values : List MatchedValue) → IsClear (course_of history) → HoldsValues history values
+pub few_values : (history : Contents) (values : List MatchedValue) → IsClear (course_of history)
+    → HoldsValues history values
     → length history.initial + length history.operations ≤ MAX_MATCHED → length values ≤ PLACES
 few_values history values clear holds few =
     let all = timeline_of history in
@@ -147,7 +152,8 @@ all_left [] = refl
 all_left (x ∷ xs) = ap (λ rest. x ∷ rest) (all_left xs)
 
 -- an element that is left is at a place whose flag isn't set
-pub place_left : {X : Type 0} (xs : List X) (taken : List Bool) (i : ℕ) (x : X) → slice_get (left_of xs taken) i ≡ Some x
+pub place_left : {X : Type 0} (xs : List X) (taken : List Bool) (i : ℕ) (x : X)
+    → slice_get (left_of xs taken) i ≡ Some x
     → (p : ℕ) × (slice_get xs p ≡ Some x) × (slice_get taken p ≡ Some false)
 place_left [] taken i x at = cc
 place_left (y ∷ ys) [] i x at = cc
@@ -156,7 +162,8 @@ place_left (y ∷ ys) (false ∷ taken) zero x at = (zero, at, refl)
 place_left (y ∷ ys) (false ∷ taken) (suc i) x at = let later = place_left ys taken i x at in (suc later.0, later.1, later.2)
 
 -- setting the flag of an element that is left takes that element
-pub one_taken : {X : Type 0} (xs : List X) (taken : List Bool) (p : ℕ) (x : X) → slice_get xs p ≡ Some x → slice_get taken p ≡ Some false
+pub one_taken : {X : Type 0} (xs : List X) (taken : List Bool) (p : ℕ) (x : X) → slice_get xs p ≡ Some x
+    → slice_get taken p ≡ Some false
     → IsPermutation (left_of xs taken) (x ∷ left_of xs (set taken p true))
 one_taken [] taken p x at flag = cc
 one_taken (y ∷ ys) [] p x at flag = cc
@@ -170,14 +177,16 @@ one_taken (y ∷ ys) (false ∷ taken) (suc p) x at flag =
     (IsPermutation-cons y (left_of ys taken) (x ∷ rest) (one_taken ys taken p x at flag)) (IsPermutation-middle (y ∷ []) x rest)
 
 -- an element whose flag isn't set is left
-pub left_where : {X : Type 0} (xs : List X) (taken : List Bool) (p : ℕ) (x : X) → slice_get xs p ≡ Some x → slice_get taken p ≡ Some false
+pub left_where : {X : Type 0} (xs : List X) (taken : List Bool) (p : ℕ) (x : X) → slice_get xs p ≡ Some x
+    → slice_get taken p ≡ Some false
     → Contains (left_of xs taken) x
 left_where xs taken p x at flag =
     let rest = left_of xs (set taken p true) in
     Contains-permutation _ _ x (IsPermutation-sym _ _ (one_taken xs taken p x at flag)) (zero, omega arith, refl)
 
 -- a flag that is set stays set
-pub flag_stays : (taken : List Bool) (p k : ℕ) → slice_get taken k ≡ Some true → slice_get (set taken p true) k ≡ Some true
+pub flag_stays : (taken : List Bool) (p k : ℕ) → slice_get taken k ≡ Some true
+    → slice_get (set taken p true) k ≡ Some true
 flag_stays [] p k is = cc
 flag_stays (b ∷ taken) zero zero is = refl
 flag_stays (b ∷ taken) zero (suc k) is = is
@@ -224,7 +233,8 @@ module _ (number : Life → ℕ) (values : List MatchedValue) (i : ℕ) (entries
   }
 
 -- the same entries in another order
-moved_so_far : (number : Life → ℕ) (values : List MatchedValue) (n : ℕ) (entries moved : List Timed) → AreTimedSoFar number values n entries
+moved_so_far : (number : Life → ℕ) (values : List MatchedValue) (n : ℕ) (entries moved : List Timed)
+    → AreTimedSoFar number values n entries
     → IsPermutation entries moved → AreTimedSoFar number values n moved
 moved_so_far number values n entries moved are permutes = record {
   are_timed = All-permutation (IsTimeOf number values) entries moved permutes are.are_timed;
@@ -235,8 +245,10 @@ moved_so_far number values n entries moved are permutes = record {
 }
 
 -- all values with their times, sorted
-pub sorted_by_time : (number : Life → ℕ) (values : List MatchedValue) (n : ℕ) (entries sorted : List Timed) → AreTimedSoFar number values n entries
-    → length values ≤ n → IsPermutation entries sorted → IsNonDecreasingBy (λ timed. timed.time) sorted → AreByTime number values sorted
+pub sorted_by_time : (number : Life → ℕ) (values : List MatchedValue) (n : ℕ) (entries sorted : List Timed)
+    → AreTimedSoFar number values n entries
+    → length values ≤ n → IsPermutation entries sorted → IsNonDecreasingBy (λ timed. timed.time) sorted
+    → AreByTime number values sorted
 sorted_by_time number values n entries sorted so_far all permutes rises =
     let are = moved_so_far number values n entries sorted so_far permutes in record {
       never_falls = rises;
@@ -246,7 +258,8 @@ sorted_by_time number values n entries sorted so_far all permutes rises =
     }
 
 -- an entry before the cursor is taken, so one that is left is at or after it
-stands_after : (taken : List Bool) (entries : List Timed) (i k : ℕ) (timed : Timed) → All (IsTaken taken) (take i entries)
+stands_after : (taken : List Bool) (entries : List Timed) (i k : ℕ) (timed : Timed)
+    → All (IsTaken taken) (take i entries)
     → slice_get entries k ≡ Some timed → IsLeft taken timed → i ≤ k
 stands_after taken entries i k timed before at flag = elim (cases_lt k i) [
   | inr after ↦ after
@@ -267,20 +280,24 @@ not_past taken entries i before left =
     let inside = slice_get_within entries place.0 left.0 place.1 in
     omega arith
 
-flag_at : (taken : List Bool) (entries : List Timed) (i : ℕ) (d : Timed) (e b : Bool) → All (λ timed. timed.place < length taken) entries
-    → i < length entries → get_or taken (get_or entries i d).place e ≡ b → slice_get taken (get_or entries i d).place ≡ Some b
+flag_at : (taken : List Bool) (entries : List Timed) (i : ℕ) (d : Timed) (e b : Bool)
+    → All (λ timed. timed.place < length taken) entries
+    → i < length entries → get_or taken (get_or entries i d).place e ≡ b
+    → slice_get taken (get_or entries i d).place ≡ Some b
 flag_at taken entries i d e b flagged within is =
     slice_get-get_or taken (get_or entries i d).place e (All-get_or (λ timed. timed.place < length taken) entries i d within flagged) ∙ ap Some is
 
 -- the walk continues past an entry that is taken
-pub walked : (taken : List Bool) (entries : List Timed) (i : ℕ) (d : Timed) (e : Bool) → All (λ timed. timed.place < length taken) entries
+pub walked : (taken : List Bool) (entries : List Timed) (i : ℕ) (d : Timed) (e : Bool)
+    → All (λ timed. timed.place < length taken) entries
     → All (IsTaken taken) (take i entries) → i < length entries
     → get_or taken (get_or entries i d).place e ≡ true → All (IsTaken taken) (take (i + 1) entries)
 walked taken entries i d e flagged before within is =
     All-more (IsTaken taken) entries i d within before (flag_at taken entries i d e true flagged within is)
 
 -- the walk ends at an entry that isn't taken
-pub stopped : (taken : List Bool) (entries : List Timed) (i : ℕ) (d : Timed) (e : Bool) → All (λ timed. timed.place < length taken) entries
+pub stopped : (taken : List Bool) (entries : List Timed) (i : ℕ) (d : Timed) (e : Bool)
+    → All (λ timed. timed.place < length taken) entries
     → All (IsTaken taken) (take i entries) → i < length entries
     → get_or taken (get_or entries i d).place e ≡ false → IsFirstLeft entries taken i
 stopped taken entries i d e flagged before within is = record {
@@ -290,28 +307,32 @@ stopped taken entries i d e flagged before within is = record {
 }
 
 -- the walk ends past the last entry
-pub ended : (taken : List Bool) (entries : List Timed) (i : ℕ) → All (IsTaken taken) (take i entries) → length entries ≤ i → IsFirstLeft entries taken i
+pub ended : (taken : List Bool) (entries : List Timed) (i : ℕ) → All (IsTaken taken) (take i entries)
+    → length entries ≤ i → IsFirstLeft entries taken i
 ended taken entries i before past = record {
   before = before;
   is_left = λ timed at. absurd (let within = slice_get_within entries i timed at in omega (arith, within, past));
 }
 
 -- the first entry whose value is left has the least time of the values that are left
-pub record IsLeastLeft (number : Life → ℕ) (values : List MatchedValue) (taken : List Bool) (timed : Timed) : Type 0 where
+pub record IsLeastLeft (number : Life → ℕ) (values : List MatchedValue) (taken : List Bool)
+    (timed : Timed) : Type 0 where
   pub value : MatchedValue
   pub is_at : slice_get values timed.place ≡ Some value
   pub time_is : timed.time ≡ number value.life
   pub is_left : IsLeft taken timed
   pub is_least : IsLeastBy number (lives_in (left_of values taken)) value.life
 
-module _ (number : Life → ℕ) (values : List MatchedValue) (entries : List Timed) (taken : List Bool) (are : AreByTime number values entries) where
+module _ (number : Life → ℕ) (values : List MatchedValue) (entries : List Timed) (taken : List Bool)
+    (are : AreByTime number values entries) where
   value_of : (k : ℕ) (timed : Timed) → slice_get entries k ≡ Some timed
       → (m : MatchedValue) × (slice_get values timed.place ≡ Some m) × (timed.time ≡ number m.life)
   value_of k timed at = from_some_and _ (λ m. timed.time ≡ number m.life)
       (All-contains (IsTimeOf number values) _ timed are.are_timed (contains_at entries k timed at))
 
   -- a value that is left and has such a time has its entry at the cursor or later
-  entry_of : (i : ℕ) (first : IsFirstLeft entries taken i) (y : MatchedValue) → Contains (left_of values taken) y → number y.life < NEVER
+  entry_of : (i : ℕ) (first : IsFirstLeft entries taken i) (y : MatchedValue) → Contains (left_of values taken) y
+      → number y.life < NEVER
       → (k : ℕ) × (timed : Timed) × (slice_get entries k ≡ Some timed) × (i ≤ k) × (timed.time ≡ number y.life)
   entry_of i first y among past =
       let at = place_of (left_of values taken) y among in
@@ -337,7 +358,8 @@ module _ (number : Life → ℕ) (values : List MatchedValue) (entries : List Ti
   )
 
   -- the value of the first entry that is left is the least of those left
-  pub least_left : (i : ℕ) (first : IsFirstLeft entries taken i) (x : Timed) → slice_get entries i ≡ Some x → IsLeastLeft number values taken x
+  pub least_left : (i : ℕ) (first : IsFirstLeft entries taken i) (x : Timed) → slice_get entries i ≡ Some x
+      → IsLeastLeft number values taken x
   least_left i first x at =
       let found = value_of i x at in
       let left = first.is_left x at in
@@ -358,7 +380,8 @@ module _ (number : Life → ℕ) (values : List MatchedValue) (entries : List Ti
       }
 
   -- past the last entry none of those left has such a time, so each of them is the least
-  pub none_sooner : (i : ℕ) (first : IsFirstLeft entries taken i) → length entries ≤ i → All (λ m. number m.life ≤ NEVER) values
+  pub none_sooner : (i : ℕ) (first : IsFirstLeft entries taken i) → length entries ≤ i
+      → All (λ m. number m.life ≤ NEVER) values
       → (place : ℕ) (m : MatchedValue) → slice_get values place ≡ Some m → slice_get taken place ≡ Some false
       → IsLeastLeft number values taken (record { time = NEVER; place = place })
   none_sooner i first past bounded place m at left =
@@ -385,8 +408,10 @@ pub record IsNext (values : List MatchedValue) (taken : List Bool) (place : ℕ)
   pub is_choice : IsChoice (lives_in (left_of values taken)) value.life
 
 -- the value taken from the two lists is the choice
-pub chosen : (values : List MatchedValue) (taken : List Bool) (first_in first_out : Timed) (place : ℕ) → IsLeastLeft entered_by values taken first_in
-    → IsLeastLeft dequeue_return values taken first_out → TakesOneOf values first_in first_out place → IsNext values taken place
+pub chosen : (values : List MatchedValue) (taken : List Bool) (first_in first_out : Timed) (place : ℕ)
+    → IsLeastLeft entered_by values taken first_in
+    → IsLeastLeft dequeue_return values taken first_out → TakesOneOf values first_in first_out place
+    → IsNext values taken place
 chosen values taken first_in first_out place a b takes = elim (takes a.value a.is_at) [
   | inl dequeued ↦ next b.value (ap (slice_get values) dequeued.1 ∙ b.is_at) (ap (slice_get taken) dequeued.1 ∙ b.is_left) (λ _. refl)
       (λ more. absurd (omega (arith, b.time_is, dequeued.0)))
@@ -396,7 +421,8 @@ chosen values taken first_in first_out place a b takes = elim (takes a.value a.i
   where
     next : (value : MatchedValue) → slice_get values place ≡ Some value → slice_get taken place ≡ Some false
         → (dequeue_return b.value.life < leaves_from a.value.life → value.life ≡ b.value.life)
-        → (leaves_from a.value.life ≤ dequeue_return b.value.life → value.life ≡ a.value.life) → IsNext values taken place
+        → (leaves_from a.value.life ≤ dequeue_return b.value.life → value.life ≡ a.value.life)
+        → IsNext values taken place
     next value is_at is_left takes_dequeued takes_entered = record {
       value = value;
       is_at = is_at;
@@ -412,7 +438,8 @@ chosen values taken first_in first_out place a b takes = elim (takes a.value a.i
     }
 
 -- the values at the two cursors give the choice
-pub next_at : (values : List MatchedValue) (entries dequeues : List Timed) (taken : List Bool) (i j : ℕ) (first_in first_out : Timed) (place : ℕ)
+pub next_at : (values : List MatchedValue) (entries dequeues : List Timed) (taken : List Bool) (i j : ℕ)
+    (first_in first_out : Timed) (place : ℕ)
     → AreByTime entered_by values entries → AreByTime dequeue_return values dequeues → All (λ m. dequeue_return m.life ≤ NEVER) values
     → IsFirstLeft entries taken i → IsFirstLeft dequeues taken j → slice_get entries i ≡ Some first_in
     → IsDequeuedAt dequeues j first_in.place first_out → TakesOneOf values first_in first_out place → IsNext values taken place
@@ -427,7 +454,8 @@ next_at values entries dequeues taken i j first_in first_out place are_in are_ou
 -- ---- the values in order, each with the gap just before the least entry of those left
 
 -- the least entry of some lives, in any order
-pub least_is : (remaining lives : List Life) (first : Life) → IsLeastBy entered_by remaining first → IsPermutation remaining lives
+pub least_is : (remaining lives : List Life) (first : Life) → IsLeastBy entered_by remaining first
+    → IsPermutation remaining lives
     → entered_by first ≤ NEVER → least_entered_by lives ≡ entered_by first
 least_is remaining lives first least moved bound =
     let place = place_of lives first (Contains-permutation remaining lives first moved least.0) in
@@ -445,14 +473,16 @@ HaveGaps lives gaps = (i : ℕ) (life : Life) → i < length gaps → slice_get 
 pub no_gaps : (lives : List Life) → HaveGaps lives []
 no_gaps lives i life below at = absurd (omega arith)
 
-here_is : (done : List Life) (x y : Life) (rest : List Life) (i : ℕ) → i ≡ length done → slice_get (done ++ x ∷ rest) i ≡ Some y → x ≡ y
+here_is : (done : List Life) (x y : Life) (rest : List Life) (i : ℕ) → i ≡ length done
+    → slice_get (done ++ x ∷ rest) i ≡ Some y → x ≡ y
 here_is [] x y rest zero same at = cc
 here_is [] x y rest (suc i) same at = absurd (omega arith)
 here_is (z ∷ done) x y rest zero same at = absurd (omega arith)
 here_is (z ∷ done) x y rest (suc i) same at = here_is done x y rest i (omega arith) at
 
 -- one more value has its gap
-pub one_gap_more : (done : List Life) (x : Life) (rest : List Life) (gaps : List ℕ) (time : ℕ) → length gaps ≡ length done
+pub one_gap_more : (done : List Life) (x : Life) (rest : List Life) (gaps : List ℕ) (time : ℕ)
+    → length gaps ≡ length done
     → least_entered_by (x ∷ rest) ≡ time → enqueue_call x ≤ time → HaveGaps (done ++ x ∷ rest) gaps
     → HaveGaps (done ++ x ∷ rest) (gaps ++ (time - 1) ∷ [])
 one_gap_more done x rest gaps time long least called so_far i life below at = elim cases [
@@ -475,7 +505,8 @@ one_gap_more done x rest gaps time long least called so_far i life below at = el
         ∙ ap least_entered_by (drop-append_seam done (x ∷ rest)) ∙ least
 
 -- the gaps of all enqueues are found
-pub all_gaps : (lives : List Life) (gaps : List ℕ) → length gaps ≡ length lives → HaveGaps lives gaps → AreEnqueueGaps lives gaps × AreCalledInTime lives
+pub all_gaps : (lives : List Life) (gaps : List ℕ) → length gaps ≡ length lives → HaveGaps lives gaps
+    → AreEnqueueGaps lives gaps × AreCalledInTime lives
 all_gaps lives gaps long have = (
   record { one_each = long; at_each = λ i below. let life = at_place lives i below in (have i life.0 (omega (arith, long)) life.1).0 },
   λ i life at. (have i life (omega (arith, long, slice_get_within lives i life at)) at).1,
@@ -484,9 +515,11 @@ all_gaps lives gaps long have = (
 -- the values that are done: each is the choice among itself and all that may come after it, is called in time and has
 -- its gap; none of them overtakes another value or is overtaken
 pub record IsOrderedSoFar (values done left : List MatchedValue) (gaps : List ℕ) : Type 0 where
-  pub settled : (x a : MatchedValue) → Contains values x → Contains values a → Contains done x ⊎ Contains done a → ¬ (Overtakes x.life a.life)
+  pub settled : (x a : MatchedValue) → Contains values x → Contains values a → Contains done x ⊎ Contains done a
+      → ¬ (Overtakes x.life a.life)
   pub holds_each_once : IsPermutation values (done ++ left)
-  pub each_is_choice : (rest : List Life) → IsPermutation (lives_in left) rest → EachIsChoice rest → EachIsChoice (lives_in done ++ rest)
+  pub each_is_choice : (rest : List Life) → IsPermutation (lives_in left) rest → EachIsChoice rest
+      → EachIsChoice (lives_in done ++ rest)
   pub one_gap_each : length gaps ≡ length (lives_in done)
   pub have_gaps : (rest : List Life) → IsPermutation (lives_in left) rest → HaveGaps (lives_in done ++ rest) gaps
 
@@ -501,7 +534,8 @@ none_ordered values = record {
 }
 
 -- the choice among those left comes next if it is called before the first of these has entered
-pub ordered_more : (values done left left' : List MatchedValue) (x : MatchedValue) (first : Life) (time : ℕ) (gaps : List ℕ)
+pub ordered_more : (values done left left' : List MatchedValue) (x : MatchedValue) (first : Life) (time : ℕ)
+    (gaps : List ℕ)
     → IsOrderedSoFar values done left gaps → IsPermutation left (x ∷ left') → IsChoice (lives_in left) x.life
     → IsLeastBy entered_by (lives_in left) first → entered_by first ≤ NEVER → time ≡ entered_by first → enqueue_call x.life ≤ time
     → dequeue_call x.life ≤ dequeue_return x.life → IsOrderedSoFar values (done ++ x ∷ []) left' (gaps ++ (time - 1) ∷ [])
@@ -561,7 +595,8 @@ pub record IsSwept (values : List MatchedValue) (entries dequeues : List Timed) 
   pub so_far : IsOrderedSoFar values (elements_at values ordered) (left_of values taken) gaps
 
 -- nothing is swept at first
-pub nothing_swept : (values : List MatchedValue) (entries dequeues : List Timed) → IsSwept values entries dequeues (replicate (length values) false) 0 0 [] []
+pub nothing_swept : (values : List MatchedValue) (entries dequeues : List Timed)
+    → IsSwept values entries dequeues (replicate (length values) false) 0 0 [] []
 nothing_swept values entries dequeues = record {
   one_flag_each = length-replicate (length values) false;
   entries_before = All-nil (IsTaken (replicate (length values) false));
@@ -571,7 +606,8 @@ nothing_swept values entries dequeues = record {
 }
 
 -- while not all are in order, some value is left
-pub some_left : (number : Life → ℕ) (values : List MatchedValue) (entries : List Timed) (taken : List Bool) (ordered gaps : List ℕ)
+pub some_left : (number : Life → ℕ) (values : List MatchedValue) (entries : List Timed) (taken : List Bool)
+    (ordered gaps : List ℕ)
     → AreByTime number values entries → All (λ m. number m.life < NEVER) values → All (λ place. place < length values) ordered
     → IsOrderedSoFar values (elements_at values ordered) (left_of values taken) gaps → length ordered < length values
     → (timed : Timed) × Contains entries timed × IsLeft taken timed
@@ -584,14 +620,16 @@ some_left number values entries taken ordered gaps are past within so_far fewer 
     (entry.0, entry.1, ap (slice_get taken) entry.2 ∙ place.2)
 
 -- each entry has its flag
-pub flags_within : (number : Life → ℕ) (values : List MatchedValue) (entries : List Timed) (taken : List Bool) → AreByTime number values entries
+pub flags_within : (number : Life → ℕ) (values : List MatchedValue) (entries : List Timed) (taken : List Bool)
+    → AreByTime number values entries
     → length taken ≡ length values → All (λ timed. timed.place < length taken) entries
 flags_within number values entries taken are same k d within =
     let m = from_some_and (slice_get values (get_or entries k d).place) (λ m. (get_or entries k d).time ≡ number m.life) (are.are_timed k d within) in
     omega (arith, slice_get_within values (get_or entries k d).place m.0 m.1)
 
 -- one more value is swept
-pub swept_next : (values : List MatchedValue) (entries dequeues : List Timed) (taken : List Bool) (i j first_in first_out : ℕ) (order : List Timed)
+pub swept_next : (values : List MatchedValue) (entries dequeues : List Timed) (taken : List Bool)
+    (i j first_in first_out : ℕ) (order : List Timed)
     (place : ℕ) (entry : Timed) (next : IsNext values taken place) → IsSwept values entries dequeues taken i j (places_in order) (gaps_in order)
     → IsFirstLeft entries taken first_in → IsFirstLeft dequeues taken first_out → (least : IsLeastLeft entered_by values taken entry)
     → entered_by least.value.life ≤ NEVER → enqueue_call next.value.life ≤ entry.time
@@ -619,7 +657,8 @@ swept_next values entries dequeues taken i j first_in first_out order place entr
     stays timed is = flag_stays taken place timed.place is
 
 -- all values are swept
-pub all_swept : (values : List MatchedValue) (entries dequeues : List Timed) (taken : List Bool) (i j : ℕ) (order : List Timed)
+pub all_swept : (values : List MatchedValue) (entries dequeues : List Timed) (taken : List Bool) (i j : ℕ)
+    (order : List Timed)
     → IsSwept values entries dequeues taken i j (places_in order) (gaps_in order) → length values ≤ length order → IsInOrder values order
 all_swept values entries dequeues taken i j order swept all =
     let done = elements_at values (places_in order) in
@@ -638,7 +677,8 @@ all_swept values entries dequeues taken i j order swept all =
     }
 
 -- the choice among those left is passed over if it is called after one of these has entered
-pub met_passed_over : (values : List MatchedValue) (taken : List Bool) (done : List MatchedValue) (gaps : List ℕ) (place : ℕ) (entry : Timed)
+pub met_passed_over : (values : List MatchedValue) (taken : List Bool) (done : List MatchedValue) (gaps : List ℕ)
+    (place : ℕ) (entry : Timed)
     (next : IsNext values taken place) → IsOrderedSoFar values done (left_of values taken) gaps → (least : IsLeastLeft entered_by values taken entry)
     → entry.time < enqueue_call next.value.life → IsPassedOver values next.value
 met_passed_over values taken done gaps place entry next so_far least late = record {
@@ -660,7 +700,8 @@ met_passed_over values taken done gaps place entry next so_far least late = reco
 }
 
 -- once the values are in order, their places are in the chosen order of the history
-pub places_in_order : (history : Contents) (values : List MatchedValue) (order : List Timed) → HoldsValues history values
+pub places_in_order : (history : Contents) (values : List MatchedValue) (order : List Timed)
+    → HoldsValues history values
     → IsInOrder values order → IsOrderOf history order
 places_in_order history values order holds is =
     let same = lives_are history values order holds in

@@ -10,13 +10,15 @@ pub use Rattle.history_merge.specs.Legal.{ArePlacesOf, IsLegalOrder}
 pub use Rattle.history_merge.specs.Operations.{Did, IsAt, IsInWindow, NoneDid, Precedes}
 pub use Rattle.history_merge.specs.Queue.{IsAccepted}
 pub use Rattle.history_merge.specs.declared.operation.OpKind.{OpKind}
-pub use Rattle.history_merge.specs.declared.operation.OpKind.TheVariants.{Dequeue, DequeueEmpty, Enqueue, EnqueueFailed}
+pub use Rattle.history_merge.specs.declared.operation.OpKind.TheVariants.{Dequeue, DequeueEmpty, Enqueue}
+pub use Rattle.history_merge.specs.declared.operation.OpKind.TheVariants.{EnqueueFailed}
 pub use Rattle.history_merge.specs.declared.operation.Operation.{Operation}
 pub use Rattle.linearizer.specs.Inner.Merging.{IsAhead, IsDequeueFrom, IsEnqueueFrom, IsMerge, IsMergedUpTo}
 pub use Rattle.linearizer.specs.Inner.Merging.{IsNoopFrom, IsValueFrom, NoneBelow}
 pub use Rattle.linearizer.specs.Inner.Placement.{Adds, AreCalledInTime, AreEnqueueGaps, dequeues_of, elements_at}
 pub use Rattle.linearizer.specs.Inner.Placement.{enqueues_of, gaps_in, HoldsNoops, HoldsUpTo, IsCalledInRange}
-pub use Rattle.linearizer.specs.Inner.Placement.{IsNoopAt, IsOrderOf, IsPlaced, IsAtHistoryPlace, lives_in, NeverFall, noop_at}
+pub use Rattle.linearizer.specs.Inner.Placement.{IsNoopAt, IsOrderOf, IsPlaced, IsAtHistoryPlace, lives_in, NeverFall}
+pub use Rattle.linearizer.specs.Inner.Placement.{noop_at}
 pub use Rattle.linearizer.specs.Inner.Placement.{noops_in, ordered_lives, place_of as told_of, Placed, placed_in}
 pub use Rattle.linearizer.specs.Inner.Placement.{places_in, PlacesValues, position_of}
 pub use Rattle.linearizer.specs.Inner.Sweep.{AreByTime, IsDequeuedAt, IsFirstLeft, IsInOrder, IsLeft, IsTaken}

@@ -14,7 +14,8 @@ use Rattle.linearizer.proofs.Common.{IsMaybeOperation, IsMerge, IsMergedUpTo, Is
 use Rattle.linearizer.proofs.Common.{IsOrderOf, IsPermutation, IsPermutation-append_left, IsPermutation-cons}
 use Rattle.linearizer.proofs.Common.{IsPermutation-middle, IsPermutation-refl, IsPermutation-sym}
 use Rattle.linearizer.proofs.Common.{IsPermutation-to_front, IsPermutation-trans, IsPlaced, IsPositionFor, IsSource}
-use Rattle.linearizer.proofs.Common.{IsAtHistoryPlace, IsTrue, IsValueFrom, IsValueOrder, leaves_from, length, Life, List, map}
+use Rattle.linearizer.proofs.Common.{IsAtHistoryPlace, IsTrue, IsValueFrom, IsValueOrder, leaves_from, length, Life}
+use Rattle.linearizer.proofs.Common.{List, map}
 use Rattle.linearizer.proofs.Common.{map-append, mapped_option, MatchedValue, MatchOption, max, MAX_INITIAL, nat_lt}
 use Rattle.linearizer.proofs.Common.{NeverFall, None, NoneBelow, on, one_at, Operation, Option, option_map}
 use Rattle.linearizer.proofs.Common.{ordered_lives, other_dequeues, pairs_at, Placed, placed_in}
@@ -36,7 +37,8 @@ fold_max-append a [] ys = refl
 fold_max-append a (x ∷ xs) ys = fold_max-append (max a x) xs ys
 
 -- one more element in the middle of a list
-pub one_more_among : {X : Type 0} (xs ys zs : List X) (x : X) → IsPermutation (xs ++ ys) zs → IsPermutation ((xs ++ x ∷ []) ++ ys) (zs ++ x ∷ [])
+pub one_more_among : {X : Type 0} (xs ys zs : List X) (x : X) → IsPermutation (xs ++ ys) zs
+    → IsPermutation ((xs ++ x ∷ []) ++ ys) (zs ++ x ∷ [])
 one_more_among xs ys zs x moved = subst (λ l. IsPermutation l (zs ++ x ∷ [])) (sym (append_assoc xs (x ∷ []) ys))
     (IsPermutation-trans _ _ _ (IsPermutation-middle xs x ys)
     (IsPermutation-trans _ _ _ (IsPermutation-cons x _ zs moved)
@@ -45,7 +47,8 @@ one_more_among xs ys zs x moved = subst (λ l. IsPermutation l (zs ++ x ∷ []))
 -- the position of a dequeue placed at the greatest of these times
 pub dequeue_stands : (lives : List Life) (i gap left later : ℕ) (position : Stored) → gap ≡ enqueue_gap lives i
     → left ≡ greatest_leaves_from (take (i + 1) lives) → later ≡ max left gap
-    → position_of position ≡ record { gap = later; class = (if nat_lt gap later then earlier_dequeues else other_dequeues); rank = i }
+    → position_of position
+    ≡ record { gap = later; class = (if nat_lt gap later then earlier_dequeues else other_dequeues); rank = i }
     → position_of position ≡ dequeue_position lives i
 dequeue_stands lives i gap left later position gap_is left_is later_is stands =
     let last : later ≡ dequeue_gap lives i = omega (arith, later_is, left_is, gap_is) in
@@ -53,7 +56,8 @@ dequeue_stands lives i gap left later position gap_is left_is later_is stands =
 
 -- one more value
 module _ (lives : List Life) (i : ℕ) (life : Life) (at : slice_get lives i ≡ Some life) where
-  pub greatest_more : greatest_leaves_from (take (i + 1) lives) ≡ max (greatest_leaves_from (take i lives)) (leaves_from life)
+  pub greatest_more : greatest_leaves_from (take (i + 1) lives)
+      ≡ max (greatest_leaves_from (take i lives)) (leaves_from life)
   greatest_more =
       ap greatest_leaves_from (take_next lives i life at) ∙ ap (fold max 0) (map-append leaves_from (take i lives) (life ∷ []))
       ∙ fold_max-append 0 (map leaves_from (take i lives)) (leaves_from life ∷ [])
@@ -83,7 +87,8 @@ module _ (history : Contents) (values : List MatchedValue) (order : List Timed) 
   turn_within = slice_get_within values t.place read.value read.is_at
 
   -- the facts of a turn, from what is read in it
-  pub turn_is : (m : MatchedValue) → m ≡ get_or values t.place m → IsTurn history (ordered_lives history order) i m t.time
+  pub turn_is : (m : MatchedValue) → m ≡ get_or values t.place m
+      → IsTurn history (ordered_lives history order) i m t.time
   turn_is m reads =
       let same = reads ∙ get_or_from_slice_get values t.place read.value m read.is_at in
       let few = clear.complete.3 in
@@ -104,8 +109,10 @@ pub nothing_placed : (history : Contents) (lives : List Life) → HoldsUpTo hist
 nothing_placed history lives = record { left_is = refl; each_once = IsPermutation-refl []; each_placed = All-nil (IsPlaced history lives) }
 
 -- all operations are placed
-pub all_placed : (history : Contents) (order : List Timed) (i j left : ℕ) (placed : List Placed) → IsOrderOf history order
-    → length order ≤ i → length order ≤ j → HoldsUpTo history (ordered_lives history order) i j left placed → PlacesValues history placed
+pub all_placed : (history : Contents) (order : List Timed) (i j left : ℕ) (placed : List Placed)
+    → IsOrderOf history order
+    → length order ≤ i → length order ≤ j → HoldsUpTo history (ordered_lives history order) i j left placed
+    → PlacesValues history placed
 all_placed history order i j left placed is all_in all_out so_far =
     let lives = ordered_lives history order in
     let long = lives_long history order is in
@@ -128,7 +135,8 @@ source_told history (source.Initial place) o few at =
     omega arith
 
 -- the next enqueue is placed
-module _ (history : Contents) (lives : List Life) (i : ℕ) (m : MatchedValue) (gap : ℕ) (turn : IsTurn history lives i m gap) where
+module _ (history : Contents) (lives : List Life) (i : ℕ) (m : MatchedValue) (gap : ℕ)
+    (turn : IsTurn history lives i m gap) where
   is : IsLife (on (timeline_of history)) m.life
   is = is_life (timeline_of history) lives turn.order m.life (contains_at lives i m.life turn.at)
 
@@ -160,7 +168,8 @@ module _ (history : Contents) (lives : List Life) (j : ℕ) (m : MatchedValue) (
   pub left_more : left' ≡ greatest_leaves_from (take (j + 1) lives)
   left_more = let more = greatest_more lives j m.life turn.at in omega (arith, more, left_is, so_far.left_is)
 
-  with_rest : (rest : List Placed) → cons_option (dequeue_of m.life) [] ≡ placed_in rest → All (IsPlaced history lives) rest
+  with_rest : (rest : List Placed) → cons_option (dequeue_of m.life) [] ≡ placed_in rest
+      → All (IsPlaced history lives) rest
       → HoldsUpTo history lives i (j + 1) left' (placed ++ rest)
   with_rest rest same each = record {
     left_is = left_more;
@@ -179,7 +188,8 @@ module _ (history : Contents) (lives : List Life) (j : ℕ) (m : MatchedValue) (
   turn_alone none = subst (HoldsUpTo history lives i (j + 1) left') (append-nil placed)
       (with_rest [] (nothing m.dequeue (dequeue_of m.life) none turn.named.1) (All-nil (IsPlaced history lives)))
     where
-      nothing : (place : Option ℕ) (dequeue : Option Operation) → place ≡ None → IsMaybeOperation history.operations place dequeue
+      nothing : (place : Option ℕ) (dequeue : Option Operation) → place ≡ None
+          → IsMaybeOperation history.operations place dequeue
           → cons_option dequeue [] ≡ []
       nothing None None same at = refl
       nothing None (Some d) same at = absurd at
@@ -187,15 +197,18 @@ module _ (history : Contents) (lives : List Life) (j : ℕ) (m : MatchedValue) (
 
   -- one more dequeue is placed
   pub turn_with_dequeue : (p later : ℕ) (position : Stored) → m.dequeue ≡ Some p → later ≡ max left' gap
-      → position_of position ≡ record { gap = later; class = (if nat_lt gap later then earlier_dequeues else other_dequeues); rank = j }
+      → position_of position
+      ≡ record { gap = later; class = (if nat_lt gap later then earlier_dequeues else other_dequeues); rank = j }
       → (d : Operation) × HoldsUpTo history lives i (j + 1) left' (placed ++ record { operation = d; place = Some p; position = position } ∷ [])
   turn_with_dequeue p later position same later_is stands = one m.dequeue (dequeue_of m.life) same turn.named.1 refl
     where
       is : IsLife (on (timeline_of history)) m.life
       is = is_life (timeline_of history) lives turn.order m.life (contains_at lives j m.life turn.at)
 
-      one : (place : Option ℕ) (dequeue : Option Operation) → place ≡ Some p → IsMaybeOperation history.operations place dequeue → dequeue_of m.life ≡ dequeue
-          → (d : Operation) × HoldsUpTo history lives i (j + 1) left' (placed ++ record { operation = d; place = Some p; position = position } ∷ [])
+      one : (place : Option ℕ) (dequeue : Option Operation) → place ≡ Some p
+          → IsMaybeOperation history.operations place dequeue → dequeue_of m.life ≡ dequeue
+          → (d : Operation) × HoldsUpTo history lives i (j + 1) left'
+          (placed ++ record { operation = d; place = Some p; position = position } ∷ [])
       one None dequeue same at is_d = cc
       one (Some q) None same at is_d = absurd at
       one (Some q) (Some d) same at is_d =
@@ -213,7 +226,8 @@ module _ (history : Contents) (lives : List Life) (j : ℕ) (m : MatchedValue) (
 -- ---- three lists merged into one
 
 -- in a list of rising positions, no later position comes before an earlier one
-none_later : (at : ℕ → Position) (count i : ℕ) (p : Position) → ((i j : ℕ) → i < j → j < count → StandsBefore (at i) (at j))
+none_later : (at : ℕ → Position) (count i : ℕ) (p : Position)
+    → ((i j : ℕ) → i < j → j < count → StandsBefore (at i) (at j))
     → ((n : ℕ) × (i ≤ n) × (n < count) × (p ≡ at n)) → ¬ (StandsBefore p (at i))
 none_later at count i p rise (n, above, within, is) before =
     let there = subst (λ p. StandsBefore p (at i)) is before in
@@ -223,17 +237,20 @@ none_later at count i p rise (n, above, within, is) before =
     ]
 
 -- no enqueue that is left comes before the next
-pub next_enqueue : (lives : List Life) (i : ℕ) (p : Position) → IsEnqueueFrom lives i p → ¬ (StandsBefore p (enqueue_position lives i))
+pub next_enqueue : (lives : List Life) (i : ℕ) (p : Position) → IsEnqueueFrom lives i p
+    → ¬ (StandsBefore p (enqueue_position lives i))
 next_enqueue lives i p from = none_later (enqueue_position lives) (length lives) i p
     (enqueues_rise (length lives) (enqueue_gap lives) (dequeue_gap lives) (are_gaps lives)) from
 
 -- no dequeue that is left comes before the next
-pub next_dequeue : (lives : List Life) (j : ℕ) (p : Position) → IsDequeueFrom lives j p → ¬ (StandsBefore p (dequeue_position lives j))
+pub next_dequeue : (lives : List Life) (j : ℕ) (p : Position) → IsDequeueFrom lives j p
+    → ¬ (StandsBefore p (dequeue_position lives j))
 next_dequeue lives j p from = none_later (dequeue_position lives) (length lives) j p
     (dequeues_rise (length lives) (enqueue_gap lives) (dequeue_gap lives) (are_gaps lives)) from
 
 -- no no-op that is left comes before the next
-pub next_noop : (noops : List Placed) (k : ℕ) (x : Placed) (p : Position) → NeverFall noops → slice_get noops k ≡ Some x → IsNoopFrom noops k p
+pub next_noop : (noops : List Placed) (k : ℕ) (x : Placed) (p : Position) → NeverFall noops
+    → slice_get noops k ≡ Some x → IsNoopFrom noops k p
     → ¬ (StandsBefore p (position_of x.position))
 next_noop noops k x p never at (n, y, above, at_n, is) before =
     let there = subst (λ p. StandsBefore p (position_of x.position)) is before in
@@ -250,8 +267,10 @@ module _ (history : Contents) (lives : List Life) (noops : List Placed) (i j lef
     (merged : IsMergedUpTo history lives noops i j left k places) where
   -- the merged list grows by an operation which no operation ahead comes before
   grown : (i' j' left' k' : ℕ) (x : Placed) (values' : List Placed) → HoldsUpTo history lives i' j' left' values'
-      → IsPermutation ((merged.values ++ take k noops) ++ x ∷ []) (values' ++ take k' noops) → IsAhead lives noops i j k (position_of x.position)
-      → ((p : Position) → IsAhead lives noops i' j' k' p → IsAhead lives noops i j k p × ¬ (StandsBefore p (position_of x.position)))
+      → IsPermutation ((merged.values ++ take k noops) ++ x ∷ []) (values' ++ take k' noops)
+      → IsAhead lives noops i j k (position_of x.position)
+      → ((p : Position) → IsAhead lives noops i' j' k' p
+      → IsAhead lives noops i j k p × ¬ (StandsBefore p (position_of x.position)))
       → IsMergedUpTo history lives noops i' j' left' k' (places ++ cons_option x.place [])
   grown i' j' left' k' x values' held moved ahead still = record {
     values = values';
@@ -267,7 +286,8 @@ module _ (history : Contents) (lives : List Life) (noops : List Placed) (i j lef
   }
 
   -- one more value, without a placed dequeue
-  pub passed : (left' : ℕ) → HoldsUpTo history lives i (j + 1) left' merged.values → IsMergedUpTo history lives noops i (j + 1) left' k places
+  pub passed : (left' : ℕ) → HoldsUpTo history lives i (j + 1) left' merged.values
+      → IsMergedUpTo history lives noops i (j + 1) left' k places
   passed left' held = record {
     values = merged.values;
     held = held;
@@ -283,18 +303,21 @@ module _ (history : Contents) (lives : List Life) (noops : List Placed) (i j lef
       later p (inl (inr dequeue)) = inl (inr (dequeue.0, omega (arith, dequeue.1), dequeue.2, dequeue.3))
       later p (inr noop) = inr noop
 
-  value_moved : (x : Placed) → IsPermutation ((merged.values ++ take k noops) ++ x ∷ []) ((merged.values ++ x ∷ []) ++ take k noops)
+  value_moved : (x : Placed)
+      → IsPermutation ((merged.values ++ take k noops) ++ x ∷ []) ((merged.values ++ x ∷ []) ++ take k noops)
   value_moved x = IsPermutation-sym _ _ (one_more_among _ _ _ x (IsPermutation-refl _))
 
   -- the next dequeue is added, once the no-ops and enqueues before it are
-  pub dequeue_added : (left' : ℕ) (x : Placed) → HoldsUpTo history lives i (j + 1) left' (merged.values ++ x ∷ []) → j < length lives
+  pub dequeue_added : (left' : ℕ) (x : Placed) → HoldsUpTo history lives i (j + 1) left' (merged.values ++ x ∷ [])
+      → j < length lives
       → position_of x.position ≡ dequeue_position lives j
       → NoneBelow (IsEnqueueFrom lives i) (Some x.position) → NoneBelow (IsNoopFrom noops k) (Some x.position)
       → IsMergedUpTo history lives noops i (j + 1) left' k (places ++ cons_option x.place [])
   dequeue_added left' x held within stands enqueues noops_after =
       grown i (j + 1) left' k x (merged.values ++ x ∷ []) held (value_moved x) (inl (inr (j, omega arith, within, stands))) still
     where
-      still : (p : Position) → IsAhead lives noops i (j + 1) k p → IsAhead lives noops i j k p × ¬ (StandsBefore p (position_of x.position))
+      still : (p : Position) → IsAhead lives noops i (j + 1) k p
+          → IsAhead lives noops i j k p × ¬ (StandsBefore p (position_of x.position))
       still p (inl (inl is)) = (inl (inl is), enqueues p is)
       still p (inl (inr (n, above, inside, is))) =
           let from : IsDequeueFrom lives j p = (n, omega arith, inside, is) in
@@ -302,14 +325,16 @@ module _ (history : Contents) (lives : List Life) (noops : List Placed) (i j lef
       still p (inr is) = (inr is, noops_after p is)
 
   -- the next enqueue is added, once the dequeues and no-ops before it are
-  pub enqueue_added : (x : Placed) → HoldsUpTo history lives (i + 1) j left (merged.values ++ x ∷ []) → i < length lives
+  pub enqueue_added : (x : Placed) → HoldsUpTo history lives (i + 1) j left (merged.values ++ x ∷ [])
+      → i < length lives
       → position_of x.position ≡ enqueue_position lives i
       → NoneBelow (IsDequeueFrom lives j) (Some x.position) → NoneBelow (IsNoopFrom noops k) (Some x.position)
       → IsMergedUpTo history lives noops (i + 1) j left k (places ++ cons_option x.place [])
   enqueue_added x held within stands dequeues noops_after =
       grown (i + 1) j left k x (merged.values ++ x ∷ []) held (value_moved x) (inl (inl (i, omega arith, within, stands))) still
     where
-      still : (p : Position) → IsAhead lives noops (i + 1) j k p → IsAhead lives noops i j k p × ¬ (StandsBefore p (position_of x.position))
+      still : (p : Position) → IsAhead lives noops (i + 1) j k p
+          → IsAhead lives noops i j k p × ¬ (StandsBefore p (position_of x.position))
       still p (inl (inl (n, above, inside, is))) =
           let from : IsEnqueueFrom lives i p = (n, omega arith, inside, is) in
           (inl (inl from), subst (λ q. ¬ (StandsBefore p q)) (sym stands) (next_enqueue lives i p from))
@@ -317,20 +342,23 @@ module _ (history : Contents) (lives : List Life) (noops : List Placed) (i j lef
       still p (inr is) = (inr is, noops_after p is)
 
   -- the next no-op is added, once the values' operations before it are
-  pub noop_added : (x : Placed) → NeverFall noops → slice_get noops k ≡ Some x → NoneBelow (IsValueFrom lives i j) (Some x.position)
+  pub noop_added : (x : Placed) → NeverFall noops → slice_get noops k ≡ Some x
+      → NoneBelow (IsValueFrom lives i j) (Some x.position)
       → IsMergedUpTo history lives noops i j left (k + 1) (places ++ cons_option x.place [])
   noop_added x never at values = grown i j left _ x _ merged.held
       (subst (IsPermutation ((merged.values ++ take k noops) ++ x ∷ []))
       (append_assoc merged.values (take k noops) (x ∷ []) ∙ ap (λ xs. merged.values ++ xs) (sym (take_next noops k x at)))
       (IsPermutation-refl _)) (inr (k, x, omega arith, at, refl)) still
     where
-      still : (p : Position) → IsAhead lives noops i j (k + 1) p → IsAhead lives noops i j k p × ¬ (StandsBefore p (position_of x.position))
+      still : (p : Position) → IsAhead lives noops i j (k + 1) p
+          → IsAhead lives noops i j k p × ¬ (StandsBefore p (position_of x.position))
       still p (inl is) = (inl is, values p is)
       still p (inr (n, y, above, at_n, is)) =
           let from : IsNoopFrom noops k p = (n, y, omega arith, at_n, is) in (inr from, next_noop noops k x p never at from)
 
 -- nothing is merged at first
-pub nothing_merged : (history : Contents) (lives : List Life) (noops : List Placed) → IsMergedUpTo history lives noops 0 0 0 0 []
+pub nothing_merged : (history : Contents) (lives : List Life) (noops : List Placed)
+    → IsMergedUpTo history lives noops 0 0 0 0 []
 nothing_merged history lives noops = record {
   values = [];
   held = nothing_placed history lives;
@@ -373,7 +401,8 @@ all_noop noops k none = elim (cases_lt k (length noops)) [
 -- all are merged
 pub all_merged : (history : Contents) (order : List Timed) (noops : List Placed) (i j left k : ℕ) (places : List ℕ)
     → IsOrderOf history order → length order ≤ i → NoneBelow (IsDequeueFrom (ordered_lives history order) j) None
-    → NoneBelow (IsNoopFrom noops k) None → IsMergedUpTo history (ordered_lives history order) noops i j left k places → IsMerge history noops places
+    → NoneBelow (IsNoopFrom noops k) None → IsMergedUpTo history (ordered_lives history order) noops i j left k places
+    → IsMerge history noops places
 all_merged history order noops i j left k places is all_in all_out none merged = (
   merged.values,
   all_placed history order i j left merged.values is all_in (omega

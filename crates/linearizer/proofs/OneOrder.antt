@@ -16,7 +16,8 @@ use Rattle.linearizer.proofs.Common.{IsPermutation-map, IsPermutation-middle, Is
 use Rattle.linearizer.proofs.Common.{IsPermutation-trans, IsPlaced, IsPositionFor, IsPositionOf, IsValueOrder}
 use Rattle.linearizer.proofs.Common.{later_by, least_of, length, length-map, Life, List, lives_of, map, MAX_MATCHED}
 use Rattle.linearizer.proofs.Common.{NeverFall, no_enqueue, None, noop_answers, noop_at, noop_position, noops_in}
-use Rattle.linearizer.proofs.Common.{NoOrderViolation, EnqueueFailed, not_in_none, on, one_deeper, Operation, operation_at}
+use Rattle.linearizer.proofs.Common.{NoOrderViolation, EnqueueFailed, not_in_none, on, one_deeper, Operation}
+use Rattle.linearizer.proofs.Common.{operation_at}
 use Rattle.linearizer.proofs.Common.{operation_on, operations_of_life, OpKind, Option, option_map, option_to_list}
 use Rattle.linearizer.proofs.Common.{ORIGIN, pairs_at, passed_filter, passes_filter, place_of, placed_in, PLACES}
 use Rattle.linearizer.proofs.Common.{Position, Precedes, refl, same_lives, slice_get, slice_get-get_or, slice_get-map}
@@ -38,8 +39,10 @@ use Rattle.history_merge.proofs.Lists.{at_place, into_flat_map, AllPairs-tail, p
 -- ---- the chosen order is legal
 
 -- a position lies in the window of its operation, or just before
-in_window_for : (operations : List Operation) (lives : List Life) → IsClear (on operations) → NoOrderViolation (on operations) → IsValueOrder (on operations) lives
-    → (o : Operation) → Contains operations o → (k : OpKind) → o.kind ≡ k → (p : Position) → IsPositionFor (on operations) lives o k p → IsAround o p.gap
+in_window_for : (operations : List Operation) (lives : List Life) → IsClear (on operations)
+    → NoOrderViolation (on operations) → IsValueOrder (on operations) lives
+    → (o : Operation) → Contains operations o → (k : OpKind) → o.kind ≡ k → (p : Position)
+    → IsPositionFor (on operations) lives o k p → IsAround o p.gap
 in_window_for operations lives clear none order o among (Enqueue v) is p stands =
     let window = enqueue_gap_in_window operations lives clear none order stands.0 stands.1 stands.2 in
     subst (λ x. IsAround x p.gap) stands.3 (subst (λ c. IsAround (enqueue_of stands.1) c) (sym (ap (λ p. p.gap) stands.4)) window)
@@ -55,7 +58,8 @@ in_window_for operations lives clear none order o among (EnqueueFailed v) is p s
     let gaps : p.gap ≡ o.call = ap (λ p. p.gap) stands in
     (omega arith, omega arith)
 
-module _ (operations order : List Operation) (clear : IsClear (on operations)) (none : NoOrderViolation (on operations)) (chosen : IsChosenOrder (on operations) order) where
+module _ (operations order : List Operation) (clear : IsClear (on operations))
+    (none : NoOrderViolation (on operations)) (chosen : IsChosenOrder (on operations) order) where
   abbrev lives : List Life
   lives = chosen.lives
 
@@ -65,7 +69,8 @@ module _ (operations order : List Operation) (clear : IsClear (on operations)) (
   is_operation : (o : Operation) → Contains order o → Contains operations o
   is_operation o among = Contains-permutation order operations o (IsPermutation-sym operations order chosen.holds_each_once) among
 
-  position_beside : (o : Operation) → Contains operations o → (p : Position) × Contains chosen.positions p × IsPositionOf (on operations) lives o p
+  position_beside : (o : Operation) → Contains operations o
+      → (p : Position) × Contains chosen.positions p × IsPositionOf (on operations) lives o p
   position_beside o among =
       let place = place_of order o (Contains-permutation operations order o chosen.holds_each_once among) in
       let found = beside_first (λ o position. IsPositionOf (on operations) lives o position) order chosen.positions place.0 o chosen.each_has_position place.1 in
@@ -79,7 +84,8 @@ module _ (operations order : List Operation) (clear : IsClear (on operations)) (
       subst (Contains chosen.positions) (one_position operations lives clear values (enqueue_of x.0) (Enqueue is.0) found.0 (enqueue_position lives i)
       (subst (λ k. IsPositionFor (on operations) lives (enqueue_of x.0) k found.0) is.1.1 found.2) (i, x.0, x.1, refl, refl)) found.1
 
-  each_dequeue_stands : (i : ℕ) → i < length lives → IsDequeued lives i → Contains chosen.positions (dequeue_position lives i)
+  each_dequeue_stands : (i : ℕ) → i < length lives → IsDequeued lives i
+      → Contains chosen.positions (dequeue_position lives i)
   each_dequeue_stands i within (life, d, at, dequeues) =
       let is = is_life_at operations lives i life values at in
       let did = did_dequeue operations life d is dequeues in
@@ -96,7 +102,8 @@ module _ (operations order : List Operation) (clear : IsClear (on operations)) (
       (items_of operations lives clear values order chosen.positions is_operation chosen.each_has_position)
       chosen.positions_rise each_enqueue_stands each_dequeue_stands
 
-  extends : (i j : ℕ) (x y : Operation) → i < j → slice_get order i ≡ Some x → slice_get order j ≡ Some y → ¬ (Precedes y x)
+  extends : (i j : ℕ) (x y : Operation) → i < j → slice_get order i ≡ Some x → slice_get order j ≡ Some y
+      → ¬ (Precedes y x)
   extends i j x y below at_x at_y precedes =
       let p = beside_first (λ o position. IsPositionOf (on operations) lives o position) order chosen.positions i x chosen.each_has_position at_x in
       let r = beside_first (λ o position. IsPositionOf (on operations) lives o position) order chosen.positions j y chosen.each_has_position at_y in
@@ -118,7 +125,8 @@ module _ (operations order : List Operation) (clear : IsClear (on operations)) (
   }
 
 -- the chosen order is legal
-pub chosen_order_is_legal : (operations order : List Operation) → IsClear (on operations) → NoOrderViolation (on operations) → IsChosenOrder (on operations) order
+pub chosen_order_is_legal : (operations order : List Operation) → IsClear (on operations)
+    → NoOrderViolation (on operations) → IsChosenOrder (on operations) order
     → IsLegalOrder [] operations order
 chosen_order_is_legal operations order clear none chosen = legal operations order clear none chosen
 
@@ -154,7 +162,8 @@ inserted z (x ∷ xs) never =
           )
     ]
 
-sorted_by_position : (zs : List (Operation × Position)) → (all : List (Operation × Position)) × IsPermutation zs all × AllPairs NotAfter all
+sorted_by_position : (zs : List (Operation × Position))
+    → (all : List (Operation × Position)) × IsPermutation zs all × AllPairs NotAfter all
 sorted_by_position [] = ([], IsPermutation-refl [], λ i j d below within. absurd (omega arith))
 sorted_by_position (z ∷ zs) =
     let rest = sorted_by_position zs in
@@ -171,18 +180,22 @@ module _ (R : Operation → Position → Type 0) where
       let rest = located os (λ x among. each x (one_deeper o os x among)) in
       ((o, here.0) ∷ rest.0, ap (λ xs. o ∷ xs) rest.1, All-cons (λ z. R z.0 z.1) (o, here.0) rest.0 here.1 rest.2)
 
-  unzipped : (zs : List (Operation × Position)) → All (λ z. R z.0 z.1) zs → AllZip R (map (λ z. z.0) zs) (map (λ z. z.1) zs)
+  unzipped : (zs : List (Operation × Position)) → All (λ z. R z.0 z.1) zs
+      → AllZip R (map (λ z. z.0) zs) (map (λ z. z.1) zs)
   unzipped [] all = tt
   unzipped (z ∷ zs) all = (All-head (λ z. R z.0 z.1) z zs all, unzipped zs (All-tail (λ z. R z.0 z.1) z zs all))
 
 -- operations rise by their calls
-pub operations_rise : (operations : List Operation) → AreComplete operations → AllPairs (λ x y. x.call < y.call) operations
+pub operations_rise : (operations : List Operation) → AreComplete operations
+    → AllPairs (λ x y. x.call < y.call) operations
 operations_rise operations complete i j d below within = (complete.apart i j d below within).called_first
 
 -- operations whose positions never fall are in the chosen order
-pub sorted_is_chosen : (operations order : List Operation) (lives : List Life) (positions : List Position) → IsClear (on operations)
+pub sorted_is_chosen : (operations order : List Operation) (lives : List Life) (positions : List Position)
+    → IsClear (on operations)
     → IsValueOrder (on operations) lives → IsPermutation operations order
-    → AllZip (λ o position. IsPositionOf (on operations) lives o position) order positions → AllPairs (λ p q. ¬ (StandsBefore q p)) positions
+    → AllZip (λ o position. IsPositionOf (on operations) lives o position) order positions
+    → AllPairs (λ p q. ¬ (StandsBefore q p)) positions
     → IsChosenOrder (on operations) order
 sorted_is_chosen operations order lives positions clear values moved zip never_fall = record {
   lives = lives;
@@ -212,7 +225,8 @@ sorted_is_chosen operations order lives positions clear values moved zip never_f
     in_operations o among = Contains-permutation order operations o (IsPermutation-sym operations order moved) among
 
 -- there is a chosen order
-pub chosen_order_exists : (operations : List Operation) (gaps : List ℕ) → IsClear (on operations) → NoOrderViolation (on operations)
+pub chosen_order_exists : (operations : List Operation) (gaps : List ℕ) → IsClear (on operations)
+    → NoOrderViolation (on operations)
     → AreLeastFreeGaps (on operations) gaps → (order : List Operation) × IsChosenOrder (on operations) order
 chosen_order_exists operations gaps clear none free =
     let values = values_have_order operations clear in
@@ -228,8 +242,10 @@ chosen_order_exists operations gaps clear none free =
     )
 
 -- a list sorted by an antisymmetric relation is the only such list of its elements
-pub one_list : {X : Type 0} (Before : X → X → Type 0) → ((x y : X) → Before x y → Before y x → ⊥) → (xs ys : List X) → AllPairs Before xs
-    → AllPairs Before ys → ((x : X) → Contains xs x → Contains ys x) → ((x : X) → Contains ys x → Contains xs x) → xs ≡ ys
+pub one_list : {X : Type 0} (Before : X → X → Type 0) → ((x y : X) → Before x y → Before y x → ⊥) → (xs ys : List X)
+    → AllPairs Before xs
+    → AllPairs Before ys → ((x : X) → Contains xs x → Contains ys x) → ((x : X) → Contains ys x → Contains xs x)
+    → xs ≡ ys
 one_list Before one_way [] [] rise_x rise_y into back = refl
 one_list Before one_way [] (y ∷ ys) rise_x rise_y into back = absurd (not_in_none y (back y (zero, omega arith, refl)))
 one_list Before one_way (x ∷ xs) [] rise_x rise_y into back = absurd (not_in_none x (into x (zero, omega arith, refl)))
@@ -255,7 +271,8 @@ one_list {X} Before one_way (x ∷ xs) (y ∷ ys) rise_x rise_y into back =
 -- ---- the same for a history by its own course
 
 -- courses that agree give an operation the same position
-pub position_along : (c d : Course) → Agree c d → (lives : List Life) (o : Operation) (k : OpKind) (p : Position) → IsPositionFor c lives o k p
+pub position_along : (c d : Course) → Agree c d → (lives : List Life) (o : Operation) (k : OpKind) (p : Position)
+    → IsPositionFor c lives o k p
     → IsPositionFor d lives o k p
 position_along c d agree _ o (Enqueue v) p at = at
 position_along c d agree _ o (Dequeue v) p at = at
@@ -266,8 +283,10 @@ position_along c d agree _ o (EnqueueFailed v) p at = at
 abbrev AreBefore : Course → List Life → Operation → Operation → Type 0
 AreBefore c lives x y = (p : Position) × (q : Position) × IsPositionOf c lives x p × IsPositionOf c lives y q × StandsBefore p q
 
-module _ (c : Course) (operations : List Operation) (agree : Agree c (on operations)) (same_lives : c.lives ≡ lives_of operations) where
-  operations_stand : (order : List Operation) (chosen : IsChosenOrder c order) → AllPairs (AreBefore c chosen.lives) order
+module _ (c : Course) (operations : List Operation) (agree : Agree c (on operations))
+    (same_lives : c.lives ≡ lives_of operations) where
+  operations_stand : (order : List Operation) (chosen : IsChosenOrder c order)
+      → AllPairs (AreBefore c chosen.lives) order
   operations_stand order chosen i j d below within =
       let p = beside_first R order chosen.positions i (get_or order i d) chosen.each_has_position (slice_get-get_or order i d (omega arith)) in
       let q = beside_first R order chosen.positions j (get_or order j d) chosen.each_has_position (slice_get-get_or order j d within) in
@@ -291,7 +310,8 @@ module _ (c : Course) (operations : List Operation) (agree : Agree c (on operati
       second_values : IsValueOrder (on operations) second.lives
       second_values = value_order_along c (on operations) _ same_lives second.values_in_order
 
-      one : (x : Operation) (p q : Position) → IsPositionOf c second.lives x p → IsPositionOf c second.lives x q → p ≡ q
+      one : (x : Operation) (p q : Position) → IsPositionOf c second.lives x p → IsPositionOf c second.lives x q
+          → p ≡ q
       one x p q at_p at_q = one_position operations second.lives clear second_values x x.kind p q
           (position_along c (on operations) agree _ x x.kind p at_p) (position_along c (on operations) agree _ x x.kind q at_q)
 
@@ -301,7 +321,8 @@ module _ (c : Course) (operations : List Operation) (agree : Agree c (on operati
 
 -- the chosen order of a history is unique
 pub one_chosen_order : (initial : List ℕ) (operations xs ys : List Operation) → IsClear (course initial operations)
-    → IsChosenOrder (course initial operations) (timed xs) → IsChosenOrder (course initial operations) (timed ys) → xs ≡ ys
+    → IsChosenOrder (course initial operations) (timed xs) → IsChosenOrder (course initial operations) (timed ys)
+    → xs ≡ ys
 one_chosen_order initial operations xs ys clear first second = later_injective ORIGIN xs ys
     (order_is_one (course initial operations) (timeline initial operations) (clear_course initial operations clear)
     (sym (same_lives initial operations)) (timed xs) (timed ys) (clear_on initial operations clear) first second)
@@ -309,12 +330,15 @@ one_chosen_order initial operations xs ys clear first second = later_injective O
 -- ---- each operation is an enqueue or the dequeue of one value, an empty dequeue, or a failed enqueue
 
 -- the operations of lives are the enqueues and the dequeues
-by_class : (lives : List Life) → IsPermutation (flat_map operations_of_life lives) (enqueues_of lives ++ dequeues_of lives)
+by_class : (lives : List Life)
+    → IsPermutation (flat_map operations_of_life lives) (enqueues_of lives ++ dequeues_of lives)
 by_class [] = IsPermutation-refl []
 by_class (life ∷ lives) = IsPermutation-cons _ _ _ (step (dequeue_of life) (by_class lives))
   where
-    step : (o : Option Operation) → IsPermutation (flat_map operations_of_life lives) (enqueues_of lives ++ dequeues_of lives)
-        → IsPermutation (option_to_list o ++ flat_map operations_of_life lives) (enqueues_of lives ++ cons_option o (dequeues_of lives))
+    step : (o : Option Operation)
+        → IsPermutation (flat_map operations_of_life lives) (enqueues_of lives ++ dequeues_of lives)
+        → IsPermutation (option_to_list o ++ flat_map operations_of_life lives)
+        (enqueues_of lives ++ cons_option o (dequeues_of lives))
     step None more = more
     step (Some d) more = IsPermutation-trans _ _ _ (IsPermutation-cons d _ _ more) (IsPermutation-sym _ _
         (IsPermutation-middle _ d _))
@@ -336,7 +360,8 @@ split_by_kind (o ∷ operations) =
     step (filter moves_value operations) (filter is_empty_answer operations) (filter is_failed operations) (split_by_kind operations) o.kind
   where
     step : (xs ys zs : List Operation) → IsPermutation operations (xs ++ ys ++ zs) → (k : OpKind)
-        → IsPermutation (o ∷ operations) (cond (moves_kind k) (o ∷ xs) xs ++ cond (is_empty_kind k) (o ∷ ys) ys ++ cond (is_failed_kind k) (o ∷ zs) zs)
+        → IsPermutation (o ∷ operations)
+        (cond (moves_kind k) (o ∷ xs) xs ++ cond (is_empty_kind k) (o ∷ ys) ys ++ cond (is_failed_kind k) (o ∷ zs) zs)
     step xs ys zs moved (Enqueue v) = IsPermutation-cons o operations (xs ++ ys ++ zs) moved
     step xs ys zs moved (Dequeue v) = IsPermutation-cons o operations (xs ++ ys ++ zs) moved
     step xs ys zs moved DequeueEmpty = IsPermutation-trans _ _ _ (IsPermutation-cons o _ _ moved)
@@ -344,7 +369,8 @@ split_by_kind (o ∷ operations) =
     step xs ys zs moved (EnqueueFailed v) = IsPermutation-trans _ _ _ (IsPermutation-cons o _ _ moved)
         (IsPermutation-sym _ _ (IsPermutation-middle _ o zs))
 
-none_twice_by_calls : (operations : List Operation) → AllPairs (λ x y. x.call < y.call) operations → NoneTwice operations
+none_twice_by_calls : (operations : List Operation) → AllPairs (λ x y. x.call < y.call) operations
+    → NoneTwice operations
 none_twice_by_calls operations rise =
     none_twice_from_places operations (λ i j x y at_x at_y same. one_place (λ o. o.call) operations operations i j x y rise
     (IsPermutation-refl operations) at_x at_y (ap (λ o. o.call) same))
@@ -374,7 +400,8 @@ module _ (operations : List Operation) (clear : IsClear (on operations)) where
       alone None = tt
       alone (Some d) = (not_in_none d, tt)
 
-  pub none_twice_in_lives : (lives : List Life) → NoneTwice lives → ((x : Life) → Contains lives x → IsLife (on operations) x)
+  pub none_twice_in_lives : (lives : List Life) → NoneTwice lives
+      → ((x : Life) → Contains lives x → IsLife (on operations) x)
       → NoneTwice (flat_map operations_of_life lives)
   none_twice_in_lives [] none are = tt
   none_twice_in_lives (life ∷ lives) none are =
@@ -389,18 +416,22 @@ module _ (operations : List Operation) (clear : IsClear (on operations)) where
           none.0 (subst (Contains lives) (sym one) among)
 
   module _ (lives : List Life) (order : IsValueOrder (on operations) lives) where
-    into_lives : (o : Operation) → Contains (filter moves_value operations) o → Contains (flat_map operations_of_life lives) o
+    into_lives : (o : Operation) → Contains (filter moves_value operations) o
+        → Contains (flat_map operations_of_life lives) o
     into_lives o among = let passed = passed_filter moves_value operations o among in by_kind passed.0 o.kind refl passed.1
       where
-        stands : (life : Life) → IsLife (on operations) life → IsOf life o → Contains (flat_map operations_of_life lives) o
+        stands : (life : Life) → IsLife (on operations) life → IsOf life o
+            → Contains (flat_map operations_of_life lives) o
         stands life is of = into_flat_map operations_of_life lives life o (stands_in_order operations lives clear order life is) (in_life life o of)
 
-        by_kind : Contains operations o → (k : OpKind) → o.kind ≡ k → moves_kind k ≡ true → Contains (flat_map operations_of_life lives) o
+        by_kind : Contains operations o → (k : OpKind) → o.kind ≡ k → moves_kind k ≡ true
+            → Contains (flat_map operations_of_life lives) o
         by_kind in_o (Enqueue v) is moves = let life = life_of_enqueue operations o v (in_o, is) in stands life.0 life.1 (inl life.2)
         by_kind in_o (Dequeue v) is moves = let life = life_of_dequeue operations o v clear (in_o, is) in stands life.0 life.1 (inr life.2)
         by_kind in_o _ is moves = cc
 
-    from_lives : (o : Operation) → Contains (flat_map operations_of_life lives) o → Contains (filter moves_value operations) o
+    from_lives : (o : Operation) → Contains (flat_map operations_of_life lives) o
+        → Contains (filter moves_value operations) o
     from_lives o among = let found = from_flat_map operations_of_life lives o among in
         moved found.0 (is_life operations lives order found.0 found.1) (of_life found.0 o found.2)
       where
@@ -434,14 +465,16 @@ module _ (history : Contents) (clear : IsClear (course_of history)) where
   read place = operation_at history.operations place
 
   -- the operation read at a place in range is that of the history
-  stands_there : (p : ℕ) → IsCalledInRange history.operations p → IsOperation history.operations p (later_by ORIGIN (read p))
+  stands_there : (p : ℕ) → IsCalledInRange history.operations p
+      → IsOperation history.operations p (later_by ORIGIN (read p))
   stands_there p within =
       let o = from_some_and (slice_get history.operations p) (λ o. o.call + ORIGIN < PACKED_LIMIT) within in
       slice_get-map (later_by ORIGIN) history.operations p
       ∙ ap (option_map (later_by ORIGIN)) (o.1 ∙ ap Some (sym (get_or_from_slice_get history.operations p o.0 _ o.1)))
 
   -- operations at rising places have rising calls
-  calls_by_place : (p q : ℕ) → IsCalledInRange history.operations p → IsCalledInRange history.operations q → p ≤ q → (read p).call ≤ (read q).call
+  calls_by_place : (p q : ℕ) → IsCalledInRange history.operations p → IsCalledInRange history.operations q → p ≤ q
+      → (read p).call ≤ (read q).call
   calls_by_place p q in_p in_q at_most = elim (cases_lt p q) [
     | inl below ↦
         let first = pairs_at (λ x y. x.call < y.call) (timeline_of history) _ _ _ _
@@ -454,7 +487,8 @@ module _ (history : Contents) (clear : IsClear (course_of history)) where
 
   -- sorted by gap and place, none comes before an earlier one
   pub noops_never_fall : (sorted : List Timed) → length history.operations ≤ MAX_MATCHED
-      → All (λ timed. IsCalledInRange history.operations timed.place) sorted → IsNonDecreasingBy (λ timed. PLACES * timed.time + timed.place) sorted
+      → All (λ timed. IsCalledInRange history.operations timed.place) sorted
+      → IsNonDecreasingBy (λ timed. PLACES * timed.time + timed.place) sorted
       → NeverFall (map (noop_at history.operations) sorted)
   noops_never_fall sorted few within rises i j d below inside before =
       let long = length-map sorted (noop_at history.operations) in
@@ -464,7 +498,8 @@ module _ (history : Contents) (clear : IsClear (course_of history)) where
       clash (get_or sorted i nowhere) (get_or sorted j nowhere) (rises i j nowhere (omega arith) (omega arith)) (within i nowhere (omega arith))
       (within j nowhere (omega arith)) (rw (at_x, at_y) at before)
     where
-      clash : (x y : Timed) → PLACES * x.time + x.place ≤ PLACES * y.time + y.place → IsCalledInRange history.operations x.place
+      clash : (x y : Timed) → PLACES * x.time + x.place ≤ PLACES * y.time + y.place
+          → IsCalledInRange history.operations x.place
           → IsCalledInRange history.operations y.place
           → (y.time < x.time) ⊎ ((y.time ≡ x.time) × ((noop_answers < noop_answers) ⊎ ((noop_answers ≡ noop_answers)
           × ((read y.place).call + ORIGIN < (read x.place).call + ORIGIN)))) → ⊥
@@ -484,8 +519,10 @@ module _ (history : Contents) (clear : IsClear (course_of history)) where
       called_in_range history clear (get_or timed k d).place o.0 o.2.at
 
   -- each of them has its position
-  stand_placed : (listed : List Operation) (timed : List Timed) (lives : List Life) → AllZip (IsNoopAt history) listed timed
-      → (listed ≡ placed_in (map (noop_at history.operations) timed)) × All (IsPlaced history lives) (map (noop_at history.operations) timed)
+  stand_placed : (listed : List Operation) (timed : List Timed) (lives : List Life)
+      → AllZip (IsNoopAt history) listed timed
+      → (listed ≡ placed_in (map (noop_at history.operations) timed))
+      × All (IsPlaced history lives) (map (noop_at history.operations) timed)
   stand_placed [] [] lives each = (refl, All-nil (IsPlaced history lives))
   stand_placed [] (t ∷ timed) lives each = absurd each
   stand_placed (o ∷ listed) [] lives each = absurd each
@@ -508,11 +545,13 @@ module _ (history : Contents) (clear : IsClear (course_of history)) where
         empties.each_stands failed.each_stands)
 
     -- they are operations, in any order
-    pub noops_within : (sorted : List Timed) → IsPermutation all sorted → All (λ timed. IsCalledInRange history.operations timed.place) sorted
+    pub noops_within : (sorted : List Timed) → IsPermutation all sorted
+        → All (λ timed. IsCalledInRange history.operations timed.place) sorted
     noops_within sorted moved = All-permutation (λ timed. IsCalledInRange history.operations timed.place) all sorted moved (stands_within _ all both)
 
     -- sorted by gap and place, they are the list that is merged
-    pub noops_held : (sorted : List Timed) → IsPermutation all sorted → NeverFall (map (noop_at history.operations) sorted)
+    pub noops_held : (sorted : List Timed) → IsPermutation all sorted
+        → NeverFall (map (noop_at history.operations) sorted)
         → HoldsNoops history (map (noop_at history.operations) sorted)
     noops_held sorted moved never =
         let at = noop_at history.operations in

@@ -32,31 +32,36 @@ greatest_above_start : (a : ℕ) (xs : List ℕ) → a ≤ fold max a xs
 greatest_above_start a [] = omega arith
 greatest_above_start a (x ∷ xs) = let more = greatest_above_start (max a x) xs in omega arith
 
-least_at_least : (a b : ℕ) (xs : List Life) → b ≤ a → ((j : ℕ) (y : Life) → slice_get xs j ≡ Some y → b ≤ entered_by y) → b ≤ fold min a (map entered_by xs)
+least_at_least : (a b : ℕ) (xs : List Life) → b ≤ a → ((j : ℕ) (y : Life) → slice_get xs j ≡ Some y → b ≤ entered_by y)
+    → b ≤ fold min a (map entered_by xs)
 least_at_least a b [] le each = le
 least_at_least a b (x ∷ xs) le each = let here = each zero x refl in least_at_least (min a (entered_by x)) b xs (omega arith) (λ j y at. each (suc j) y at)
 
 -- a lower bound of the entries from place i on is at most the least of them
-pub at_most_least : (lives : List Life) (i b : ℕ) → b ≤ NEVER → ((j : ℕ) (y : Life) → i ≤ j → slice_get lives j ≡ Some y → b ≤ entered_by y)
+pub at_most_least : (lives : List Life) (i b : ℕ) → b ≤ NEVER
+    → ((j : ℕ) (y : Life) → i ≤ j → slice_get lives j ≡ Some y → b ≤ entered_by y)
     → b ≤ least_entered_by (drop i lives)
 at_most_least lives zero b le each = least_at_least NEVER b lives le (λ j y at. each j y (omega arith) at)
 at_most_least [] (suc i) b le each = le
 at_most_least (x ∷ lives) (suc i) b le each = at_most_least lives i b le (λ j y above at. each (suc j) y (omega arith) at)
 
-least_at_most : (a : ℕ) (xs : List Life) (j : ℕ) (y : Life) → slice_get xs j ≡ Some y → fold min a (map entered_by xs) ≤ entered_by y
+least_at_most : (a : ℕ) (xs : List Life) (j : ℕ) (y : Life) → slice_get xs j ≡ Some y
+    → fold min a (map entered_by xs) ≤ entered_by y
 least_at_most a [] j y at = cc
 least_at_most a (x ∷ xs) zero y at = grind (arith, least_below_start (min a (entered_by x)) (map entered_by xs))
 least_at_most a (x ∷ xs) (suc j) y at = least_at_most (min a (entered_by x)) xs j y at
 
 -- the least entry from place i on is at most each of them
-pub least_of_later : (lives : List Life) (i j : ℕ) (y : Life) → i ≤ j → slice_get lives j ≡ Some y → least_entered_by (drop i lives) ≤ entered_by y
+pub least_of_later : (lives : List Life) (i j : ℕ) (y : Life) → i ≤ j → slice_get lives j ≡ Some y
+    → least_entered_by (drop i lives) ≤ entered_by y
 least_of_later lives zero j y le at = least_at_most NEVER lives j y at
 least_of_later [] (suc i) j y le at = cc
 least_of_later (x ∷ lives) (suc i) zero y le at = absurd (omega arith)
 least_of_later (x ∷ lives) (suc i) (suc j) y le at = least_of_later lives i j y (omega arith) at
 
 -- a strict upper bound of the start and of what the first k values leave from is above the greatest
-greatest_below : (a b : ℕ) (lives : List Life) (k : ℕ) → a < b → ((j : ℕ) (y : Life) → j < k → slice_get lives j ≡ Some y → leaves_from y < b)
+greatest_below : (a b : ℕ) (lives : List Life) (k : ℕ) → a < b
+    → ((j : ℕ) (y : Life) → j < k → slice_get lives j ≡ Some y → leaves_from y < b)
     → fold max a (map leaves_from (take k lives)) < b
 greatest_below a b lives zero less each = less
 greatest_below a b [] (suc k) less each = less
@@ -64,7 +69,8 @@ greatest_below a b (x ∷ lives) (suc k) less each = let here = each zero x (ome
     greatest_below (max a (leaves_from x)) b lives k (omega arith) (λ j y below at. each (suc j) y (omega arith) at)
 
 -- if all values leave before a time, the greatest is before it
-pub below_greatest : (lives : List Life) (i b : ℕ) → 0 < b → ((j : ℕ) (y : Life) → j ≤ i → slice_get lives j ≡ Some y → leaves_from y < b)
+pub below_greatest : (lives : List Life) (i b : ℕ) → 0 < b
+    → ((j : ℕ) (y : Life) → j ≤ i → slice_get lives j ≡ Some y → leaves_from y < b)
     → greatest_leaves_from (take (i + 1) lives) < b
 below_greatest lives i b above each = greatest_below 0 b lives (i + 1) above (λ j y below at. each j y (omega arith) at)
 
@@ -83,7 +89,8 @@ greatest_of_first lives i j y le at = greatest_at_least 0 lives (i + 1) j y (ome
 
 -- the gaps rise along the order
 pub gaps_rise : (lives : List Life) (i j : ℕ) → i ≤ j
-    → (enqueue_gap lives i ≤ enqueue_gap lives j) × (dequeue_gap lives i ≤ dequeue_gap lives j) × (enqueue_gap lives i ≤ dequeue_gap lives i)
+    → (enqueue_gap lives i ≤ enqueue_gap lives j) × (dequeue_gap lives i ≤ dequeue_gap lives j)
+    × (enqueue_gap lives i ≤ dequeue_gap lives i)
 gaps_rise lives i j le =
     let least = at_most_least lives j (least_entered_by (drop i lives)) (least_below_start NEVER (map entered_by (drop i lives)))
     (λ k y above at. least_of_later lives i k y (omega arith) at) in
@@ -97,12 +104,14 @@ IsAround o c = (o.call ≤ c + 1) × (c < o.ret)
 
 module _ (operations : List Operation) (lives : List Life) (clear : IsClear (on operations)) (none : NoOrderViolation (on operations))
     (order : IsValueOrder (on operations) lives) where
-  called_before_entered : (i j : ℕ) (x y : Life) → i ≤ j → slice_get lives i ≡ Some x → slice_get lives j ≡ Some y → enqueue_call x ≤ entered_by y
+  called_before_entered : (i j : ℕ) (x y : Life) → i ≤ j → slice_get lives i ≡ Some x → slice_get lives j ≡ Some y
+      → enqueue_call x ≤ entered_by y
   called_before_entered i j x y le at_x at_y =
       let may = may_stand_before operations lives i j x y clear none order le at_x at_y in omega (arith, may.0)
 
   -- the gap of an enqueue lies in its window, or just before it, if the enqueue returns at its call
-  pub enqueue_gap_in_window : (i : ℕ) (life : Life) → slice_get lives i ≡ Some life → IsAround (enqueue_of life) (enqueue_gap lives i)
+  pub enqueue_gap_in_window : (i : ℕ) (life : Life) → slice_get lives i ≡ Some life
+      → IsAround (enqueue_of life) (enqueue_gap lives i)
   enqueue_gap_in_window i life at =
       let times = times_of_life operations life clear (is_life_at operations lives i life order at) in
       let bound : enqueue_call life ≤ least_entered_by (drop i lives) = at_most_least lives i (enqueue_call life) (omega arith)
@@ -110,7 +119,8 @@ module _ (operations : List Operation) (lives : List Life) (clear : IsClear (on 
       let least = least_of_later lives i i life (omega arith) at in
       (omega arith, omega arith)
 
-  left_before_returned : (i j : ℕ) (x y : Life) → j ≤ i → slice_get lives i ≡ Some x → slice_get lives j ≡ Some y → dequeue_return x < NEVER
+  left_before_returned : (i j : ℕ) (x y : Life) → j ≤ i → slice_get lives i ≡ Some x → slice_get lives j ≡ Some y
+      → dequeue_return x < NEVER
       → leaves_from y < dequeue_return x
   left_before_returned i j x y le at_x at_y returned =
       let may = may_stand_before operations lives j i y x clear none order le at_y at_x in
@@ -119,7 +129,8 @@ module _ (operations : List Operation) (lives : List Life) (clear : IsClear (on 
       omega (arith, may.1)
 
   -- the gap of a dequeue lies in its window
-  pub dequeue_gap_in_window : (i : ℕ) (life : Life) (d : Operation) → slice_get lives i ≡ Some life → dequeue_of life ≡ Some d
+  pub dequeue_gap_in_window : (i : ℕ) (life : Life) (d : Operation) → slice_get lives i ≡ Some life
+      → dequeue_of life ≡ Some d
       → IsInWindow d (dequeue_gap lives i)
   dequeue_gap_in_window i life d at dequeues =
       let calls : dequeue_call life ≡ d.call = ap call_or_never dequeues in
@@ -132,7 +143,8 @@ module _ (operations : List Operation) (lives : List Life) (clear : IsClear (on 
       (omega arith, omega arith)
 
 -- at a free gap each value that has entered has left
-entered_has_left : (operations : List Operation) (life : Life) (c : ℕ) → IsClear (on operations) → IsLife (on operations) life → IsFreeGap (on operations) c
+entered_has_left : (operations : List Operation) (life : Life) (c : ℕ) → IsClear (on operations)
+    → IsLife (on operations) life → IsFreeGap (on operations) c
     → entered_by life ≤ c → leaves_from life ≤ c
 entered_has_left operations life c clear is free entered =
     let times = times_of_life operations life clear is in
@@ -142,8 +154,10 @@ entered_has_left operations life c clear is free entered =
     ]
 
 -- each value before one that has entered has left
-pub left_before_entered : (operations : List Operation) (lives : List Life) (c i j : ℕ) (x y : Life) → IsClear (on operations) → IsValueOrder (on operations) lives
-    → IsFreeGap (on operations) c → i ≤ j → slice_get lives i ≡ Some x → slice_get lives j ≡ Some y → entered_by y ≤ c → leaves_from x ≤ c
+pub left_before_entered : (operations : List Operation) (lives : List Life) (c i j : ℕ) (x y : Life)
+    → IsClear (on operations) → IsValueOrder (on operations) lives
+    → IsFreeGap (on operations) c → i ≤ j → slice_get lives i ≡ Some x → slice_get lives j ≡ Some y → entered_by y ≤ c
+    → leaves_from x ≤ c
 left_before_entered operations lives c i j x y clear order free le at_x at_y entered =
     let turn = turn_of lives i j x y order.each_is_choice le at_x at_y in
     let a = turn.is_choice.first_entered in
@@ -184,7 +198,8 @@ one_value lives i v w x y =
     cc
 
 -- each value before a dequeued one is dequeued
-pub dequeued_first : (operations : List Operation) (lives : List Life) → IsClear (on operations) → NoOrderViolation (on operations) → IsValueOrder (on operations) lives
+pub dequeued_first : (operations : List Operation) (lives : List Life) → IsClear (on operations)
+    → NoOrderViolation (on operations) → IsValueOrder (on operations) lives
     → (i j : ℕ) → i ≤ j → j < length lives → IsDequeued lives j → IsDequeued lives i
 dequeued_first operations lives clear none order i j le within (y, d, at_y, dequeues) =
     let x = at_place lives i (omega arith) in
@@ -194,7 +209,8 @@ dequeued_first operations lives clear none order i j le within (y, d, at_y, dequ
     (x.0, found.0, x.1, found.1)
 
 -- if the least entry is reached, one of the entries is
-reached_by_one : (a c : ℕ) (xs : List Life) → c < a → fold min a (map entered_by xs) ≤ c → (j : ℕ) × (y : Life) × (slice_get xs j ≡ Some y) × (entered_by y ≤ c)
+reached_by_one : (a c : ℕ) (xs : List Life) → c < a → fold min a (map entered_by xs) ≤ c
+    → (j : ℕ) × (y : Life) × (slice_get xs j ≡ Some y) × (entered_by y ≤ c)
 reached_by_one a c [] less le = absurd (omega arith)
 reached_by_one a c (x ∷ xs) less le =
     let here : (entered_by x ≤ c) ⊎ (c < min a (entered_by x)) = grind arith in
@@ -209,9 +225,11 @@ entered_later lives zero c less le = let found = reached_by_one NEVER c lives le
 entered_later [] (suc i) c less le = absurd (omega arith)
 entered_later (x ∷ lives) (suc i) c less le = let more = entered_later lives i c less le in (suc more.0, more.1, omega (arith, more.2), more.3, more.4)
 
-module _ (operations : List Operation) (lives : List Life) (clear : IsClear (on operations)) (order : IsValueOrder (on operations) lives) where
+module _ (operations : List Operation) (lives : List Life) (clear : IsClear (on operations))
+    (order : IsValueOrder (on operations) lives) where
   -- each value enqueued before a free gap is dequeued by then
-  gone_at_free_gap : (c : ℕ) → IsFreeGap (on operations) c → c < NEVER → (i : ℕ) → i < length lives → enqueue_gap lives i < c
+  gone_at_free_gap : (c : ℕ) → IsFreeGap (on operations) c → c < NEVER → (i : ℕ) → i < length lives
+      → enqueue_gap lives i < c
       → (dequeue_gap lives i ≤ c) × IsDequeued lives i
   gone_at_free_gap c free in_range i within entered =
       let later = entered_later lives i c in_range (omega arith) in
@@ -225,7 +243,8 @@ module _ (operations : List Operation) (lives : List Life) (clear : IsClear (on 
       (omega arith, (x.0, found.0, x.1, found.1))
 
   -- an operation at its position is an item of the run
-  item_of : (o : Operation) → Contains operations o → (k : OpKind) → o.kind ≡ k → (position : Position) → IsPositionFor (on operations) lives o k position
+  item_of : (o : Operation) → Contains operations o → (k : OpKind) → o.kind ≡ k → (position : Position)
+      → IsPositionFor (on operations) lives o k position
       → IsItemOf lives k position
   item_of o among (Enqueue v) is position stands =
       (stands.0, slice_get_within lives stands.0 stands.1 stands.2, (stands.1, stands.2, ap (λ o. o.kind) stands.3 ∙ is), stands.4)
@@ -245,8 +264,10 @@ module _ (operations : List Operation) (lives : List Life) (clear : IsClear (on 
   item_of o among (EnqueueFailed v) is position stands = ap (λ p. p.class) stands
 
   -- the operations and their positions are a run of items
-  pub items_of : (os : List Operation) (positions : List Position) → ((o : Operation) → Contains os o → Contains operations o)
-      → AllZip (λ o position. IsPositionOf (on operations) lives o position) os positions → AllZip (IsItemOf lives) (map (λ o. o.kind) os) positions
+  pub items_of : (os : List Operation) (positions : List Position)
+      → ((o : Operation) → Contains os o → Contains operations o)
+      → AllZip (λ o position. IsPositionOf (on operations) lives o position) os positions
+      → AllZip (IsItemOf lives) (map (λ o. o.kind) os) positions
   items_of [] [] among stands = stands
   items_of [] (p ∷ positions) among stands = stands
   items_of (o ∷ os) [] among stands = stands
@@ -261,7 +282,8 @@ same_kind : (k l : OpKind) → (k ≡ l) ⊎ ¬ (k ≡ l)
 same_kind k l = grind arith
 
 -- some operation is of this kind, or none is
-one_did : (kind : OpKind) (operations : List Operation) → ((o : Operation) × Did operations o kind) ⊎ NoneDid operations kind
+one_did : (kind : OpKind) (operations : List Operation)
+    → ((o : Operation) × Did operations o kind) ⊎ NoneDid operations kind
 one_did kind [] = inr (λ o among. absurd (not_in_none o among))
 one_did kind (x ∷ operations) = elim (same_kind x.kind kind) [
   | inl is ↦ inl (x, ((zero, omega arith, refl), is))
@@ -272,7 +294,8 @@ one_did kind (x ∷ operations) = elim (same_kind x.kind kind) [
 ]
 
 -- each dequeued value was enqueued
-enqueue_of_dequeued : (operations : List Operation) (o : Operation) (v : ℕ) → IsClear (on operations) → Did operations o (Dequeue v)
+enqueue_of_dequeued : (operations : List Operation) (o : Operation) (v : ℕ) → IsClear (on operations)
+    → Did operations o (Dequeue v)
     → (e : Operation) × Did operations e (Enqueue v)
 enqueue_of_dequeued operations o v clear did = elim (one_did (Enqueue v) operations) [
   | inl found ↦ found
@@ -292,7 +315,8 @@ life_of_enqueue operations e v did = (
 )
 
 -- a dequeue ends a life
-pub life_of_dequeue : (operations : List Operation) (o : Operation) (v : ℕ) → IsClear (on operations) → Did operations o (Dequeue v)
+pub life_of_dequeue : (operations : List Operation) (o : Operation) (v : ℕ) → IsClear (on operations)
+    → Did operations o (Dequeue v)
     → (life : Life) × IsLife (on operations) life × (dequeue_of life ≡ Some o)
 life_of_dequeue operations o v clear did =
     let e = enqueue_of_dequeued operations o v clear did in
@@ -304,9 +328,11 @@ life_of_dequeue operations o v clear did =
     one e did_e None none = absurd (none o did.0 did.1)
     one e did_e (Some d) did_d = ap (λ x. Some x) (same_dequeue operations e d o v clear did_e did_d did)
 
-module _ (operations : List Operation) (lives : List Life) (clear : IsClear (on operations)) (order : IsValueOrder (on operations) lives) where
+module _ (operations : List Operation) (lives : List Life) (clear : IsClear (on operations))
+    (order : IsValueOrder (on operations) lives) where
   -- each operation has a position
-  pub has_position : (gaps : List ℕ) → AreLeastFreeGaps (on operations) gaps → (o : Operation) → Contains operations o → (k : OpKind) → o.kind ≡ k
+  pub has_position : (gaps : List ℕ) → AreLeastFreeGaps (on operations) gaps → (o : Operation) → Contains operations o
+      → (k : OpKind) → o.kind ≡ k
       → (position : Position) × IsPositionFor (on operations) lives o k position
   has_position gaps free o among (Enqueue v) is =
       let life = life_of_enqueue operations o v (among, is) in
@@ -323,7 +349,8 @@ module _ (operations : List Operation) (lives : List Life) (clear : IsClear (on 
   has_position gaps free o among (EnqueueFailed v) is = (noop_position o o.call, refl)
 
   -- an operation has only one position
-  pub one_position : (o : Operation) (k : OpKind) (p q : Position) → IsPositionFor (on operations) lives o k p → IsPositionFor (on operations) lives o k q → p ≡ q
+  pub one_position : (o : Operation) (k : OpKind) (p q : Position) → IsPositionFor (on operations) lives o k p
+      → IsPositionFor (on operations) lives o k q → p ≡ q
   one_position o (Enqueue v) p q at_p at_q =
       let one = one_life_of_enqueue operations at_p.1 at_q.1 clear (is_life_at operations lives at_p.0 at_p.1 order at_p.2)
       (is_life_at operations lives at_q.0 at_q.1 order at_q.2) (at_p.3 ∙ sym at_q.3) in
@@ -345,11 +372,14 @@ some_injective e = cc
 
 -- the operation is an enqueue, a dequeue, or changes nothing, as its position shows
 data Stands (lives : List Life) (o : Operation) (p : Position) : Type 0 where
-  enters : (i : ℕ) (life : Life) → slice_get lives i ≡ Some life → enqueue_of life ≡ o → p ≡ enqueue_position lives i → Stands lives o p
-  leaves : (i : ℕ) (life : Life) → slice_get lives i ≡ Some life → dequeue_of life ≡ Some o → p ≡ dequeue_position lives i → Stands lives o p
+  enters : (i : ℕ) (life : Life) → slice_get lives i ≡ Some life → enqueue_of life ≡ o → p ≡ enqueue_position lives i
+      → Stands lives o p
+  leaves : (i : ℕ) (life : Life) → slice_get lives i ≡ Some life → dequeue_of life ≡ Some o
+      → p ≡ dequeue_position lives i → Stands lives o p
   noops : (c : ℕ) → p ≡ noop_position o c → Stands lives o p
 
-stands_as : (operations : List Operation) (lives : List Life) (o : Operation) (k : OpKind) (p : Position) → IsPositionFor (on operations) lives o k p
+stands_as : (operations : List Operation) (lives : List Life) (o : Operation) (k : OpKind) (p : Position)
+    → IsPositionFor (on operations) lives o k p
     → Stands lives o p
 stands_as operations lives o (Enqueue v) p at = enters at.0 at.1 at.2 at.3 at.4
 stands_as operations lives o (Dequeue v) p at = leaves at.0 at.1 at.2 at.3 at.4

@@ -1,8 +1,10 @@
 -- Positions rise along the values, and operations in the order of their positions are a run that the queue accepts.
 use Rattle.linearizer.proofs.Common.{[], All, All-contains, All-head, All-tail, AllPairs, AllZip, ap, arith, cases_lt}
-use Rattle.linearizer.proofs.Common.{cases_order, Contains, contains_cons, Dequeue, earlier_dequeues, DequeueEmpty, Enqueue, enqueues}
+use Rattle.linearizer.proofs.Common.{cases_order, Contains, contains_cons, Dequeue, earlier_dequeues, DequeueEmpty}
+use Rattle.linearizer.proofs.Common.{Enqueue, enqueues}
 use Rattle.linearizer.proofs.Common.{eq-eqb, if◌then◌else◌, inl, inr, IsAccepted, length, length_push, List, nat_lt}
-use Rattle.linearizer.proofs.Common.{nat_tests, none-some, noop_answers, EnqueueFailed, OpKind, other_dequeues, Position, refl}
+use Rattle.linearizer.proofs.Common.{nat_tests, none-some, noop_answers, EnqueueFailed, OpKind, other_dequeues}
+use Rattle.linearizer.proofs.Common.{Position, refl}
 use Rattle.linearizer.proofs.Common.{slice_get, Some, StandsBefore, subst, suc, sym, zero, ℕ, ◌++◌, ◌+◌, ◌<◌, ◌∙◌, ◌∷◌}
 use Rattle.linearizer.proofs.Common.{◌≡◌, ◌≤◌}
 use Rattle.history_merge.proofs.Lists.{with_one_more, AllPairs-tail}
@@ -82,7 +84,8 @@ past_first : (p x : Position) (xs : List Position) → ¬ (x ≡ p) → Contains
 past_first p x xs differs among = elim (contains_cons x xs p among) [ inl same ↦ absurd (differs same) | inr there ↦ there ]
 
 -- in a rising list no position comes before the first
-none_sooner : (x q : Position) (xs : List Position) → All (StandsBefore x) xs → Contains (x ∷ xs) q → ¬ (StandsBefore q x)
+none_sooner : (x q : Position) (xs : List Position) → All (StandsBefore x) xs → Contains (x ∷ xs) q
+    → ¬ (StandsBefore q x)
 none_sooner x q xs rises among before = elim (contains_cons x xs q among) [
   | inl same ↦ not_itself x (subst (λ y. StandsBefore y x) (sym same) before)
   | inr there ↦ not_both q x before (All-contains (StandsBefore x) xs q rises there)
@@ -109,7 +112,8 @@ module _ (n : ℕ) (enter leave : ℕ → ℕ) (gaps : AreGaps n enter leave) (H
   module _ (at : ℕ → Position) (e : ℕ) (x : Position) (xs : List Position) (gone : (i : ℕ) → i < e → All (StandsBefore (at i)) (x ∷ xs))
       (rises : All (StandsBefore x) xs) where
     -- x is that of value e
-    is_next : (r : ℕ) → ((i j : ℕ) → i < j → j < n → StandsBefore (at i) (at j)) → (e < r → Contains (x ∷ xs) (at e)) → r < n → x ≡ at r → r ≡ e
+    is_next : (r : ℕ) → ((i j : ℕ) → i < j → j < n → StandsBefore (at i) (at j)) → (e < r → Contains (x ∷ xs) (at e))
+        → r < n → x ≡ at r → r ≡ e
     is_next r rise left within is = elim (cases_order r e) [
       | inl same ↦ same
       | inr (inl below) ↦ absurd (not_itself (at r) (subst (StandsBefore (at r)) is (All-head (StandsBefore (at r)) x xs (gone r below))))
@@ -123,7 +127,8 @@ module _ (n : ℕ) (enter leave : ℕ → ℕ) (gaps : AreGaps n enter leave) (H
       | inr more ↦ let same : e ≡ i = omega arith in subst (λ p. All (StandsBefore p) xs) (is ∙ ap at same) rises
     ]
 
-  module _ (e d : ℕ) (queue : List ℕ) (x : Position) (xs : List Position) (state : IsBetween e d queue (x ∷ xs)) (rises : All (StandsBefore x) xs) where
+  module _ (e d : ℕ) (queue : List ℕ) (x : Position) (xs : List Position)
+      (state : IsBetween e d queue (x ∷ xs)) (rises : All (StandsBefore x) xs) where
     -- each dequeued value was enqueued
     not_too_early : d < n → x ≡ dequeue_at enter leave d → d < e
     not_too_early within is = elim (cases_lt d e) [
@@ -146,7 +151,8 @@ module _ (n : ℕ) (enter leave : ℕ → ℕ) (gaps : AreGaps n enter leave) (H
         gap_below : StandsBefore (enqueue_at enter d) x → x.class ≡ noop_answers → enter d < x.gap
         gap_below before noop = grind arith
 
-        left_before : enter d < x.gap → leave d ≤ x.gap → x.class ≡ noop_answers → StandsBefore (dequeue_at enter leave d) x
+        left_before : enter d < x.gap → leave d ≤ x.gap → x.class ≡ noop_answers
+            → StandsBefore (dequeue_at enter leave d) x
         left_before entered left noop = grind (arith, nat_tests)
 
     after_enqueue : (v : ℕ) → e < n → Holds e v → x ≡ enqueue_at enter e → IsBetween (suc e) d (queue ++ v ∷ []) xs
@@ -186,7 +192,8 @@ module _ (n : ℕ) (enter leave : ℕ → ℕ) (gaps : AreGaps n enter leave) (H
     is_next_dequeue r within leaves = is_next (dequeue_at enter leave) d x xs state.dequeues_gone rises r (dequeues_rise n enter leave gaps)
         (λ above. state.dequeues_left d (omega arith) (omega arith) (leaves_first d r (omega arith) within leaves)) within
 
-  after_dequeue : (e d front : ℕ) (rest : List ℕ) (x : Position) (xs : List Position) → IsBetween e d (front ∷ rest) (x ∷ xs)
+  after_dequeue : (e d front : ℕ) (rest : List ℕ) (x : Position) (xs : List Position)
+      → IsBetween e d (front ∷ rest) (x ∷ xs)
       → All (StandsBefore x) xs → d < e → x ≡ dequeue_at enter leave d → IsBetween e (suc d) rest xs
   after_dequeue e d front rest x xs state rises below_e is = record {
     in_order = below_e;
@@ -202,7 +209,8 @@ module _ (n : ℕ) (enter leave : ℕ → ℕ) (gaps : AreGaps n enter leave) (H
   }
 
   is_accepted : (kinds : List OpKind) (positions : List Position) (e d : ℕ) (queue : List ℕ)
-      → AllZip (IsItem n enter leave Holds Leaves) kinds positions → AllPairs StandsBefore positions → IsBetween e d queue positions
+      → AllZip (IsItem n enter leave Holds Leaves) kinds positions → AllPairs StandsBefore positions
+      → IsBetween e d queue positions
       → IsAccepted queue kinds
   is_accepted [] positions e d queue items rises state = refl
   is_accepted (k ∷ kinds) [] e d queue items rises state = absurd items
@@ -233,7 +241,8 @@ module _ (n : ℕ) (enter leave : ℕ → ℕ) (gaps : AreGaps n enter leave) (H
       (after_dequeue e d front rest x xs state (first_rises x xs rises) early is))
 
   -- a run is accepted if its positions rise, each value is enqueued, and each that leaves is dequeued
-  pub run_is_accepted : (kinds : List OpKind) (positions : List Position) → AllZip (IsItem n enter leave Holds Leaves) kinds positions
+  pub run_is_accepted : (kinds : List OpKind) (positions : List Position)
+      → AllZip (IsItem n enter leave Holds Leaves) kinds positions
       → AllPairs StandsBefore positions → ((i : ℕ) → i < n → Contains positions (enqueue_at enter i))
       → ((i : ℕ) → i < n → Leaves i → Contains positions (dequeue_at enter leave i)) → IsAccepted [] kinds
   run_is_accepted kinds positions items rises enqueued dequeued = is_accepted kinds positions 0 0 [] items rises (record {

@@ -27,7 +27,8 @@ module _ (initial : List ℕ) (operations : List Operation) (clear : IsClear (co
   few = clear.complete.3
 
   -- the positions after those of the first operations
-  behind : (R : Operation → Position → Type 0) (xs ys : List Operation) (positions : List Position) → AllZip R (xs ++ ys) positions
+  behind : (R : Operation → Position → Type 0) (xs ys : List Operation) (positions : List Position)
+      → AllZip R (xs ++ ys) positions
       → AllPairs StandsBefore positions → (rest : List Position) × AllZip R ys rest × AllPairs StandsBefore rest
   behind R [] ys positions zip rise = (positions, zip, rise)
   behind R (x ∷ xs) ys [] zip rise = absurd zip
@@ -44,7 +45,8 @@ module _ (initial : List ℕ) (operations : List Operation) (clear : IsClear (co
       (here, positions_told lives os positions zip.1)
 
   -- the chosen order of the timeline, without the enqueues of the initial values, is that of the history
-  pub chosen_told : (order : List Operation) → IsPermutation operations order → IsChosenOrder (on all) (timeline initial order)
+  pub chosen_told : (order : List Operation) → IsPermutation operations order
+      → IsChosenOrder (on all) (timeline initial order)
       → IsChosenOrder (course initial operations) (timed order)
   chosen_told order moved chosen =
       let rest = behind (λ o position. IsPositionOf (on all) chosen.lives o position) (initial_enqueues initial) (timed order) chosen.positions
@@ -61,18 +63,21 @@ module _ (initial : List ℕ) (operations : List Operation) (clear : IsClear (co
 module _ (history : Contents) (lives : List Life) where
   -- each operation has its position, and all but those of the initial values have their places
   positions_zip : (placed : List Placed) → All (IsPlaced history lives) placed
-      → AllZip (λ o position. IsPositionOf (on (timeline_of history)) lives o position) (placed_in placed) (map (λ p. position_of p.position) placed)
+      → AllZip (λ o position. IsPositionOf (on (timeline_of history)) lives o position) (placed_in placed)
+      (map (λ p. position_of p.position) placed)
   positions_zip [] each = tt
   positions_zip (p ∷ placed) each = ((All-head (IsPlaced history lives) p placed each).1, positions_zip placed (All-tail (IsPlaced history lives) p placed each))
 
   places_told : (placed : List Placed) → All (IsPlaced history lives) placed
-      → ArePlacesOf history.operations (filter_map (λ p. p.place) placed) (filter_map (earlier ORIGIN) (placed_in placed))
+      → ArePlacesOf history.operations (filter_map (λ p. p.place) placed)
+      (filter_map (earlier ORIGIN) (placed_in placed))
   places_told [] each = refl
   places_told (p ∷ placed) each =
       one p.place (All-head (IsPlaced history lives) p placed each).0 (places_told placed (All-tail (IsPlaced history lives) p placed each))
     where
       one : (place : Option ℕ) → IsAtHistoryPlace history.operations place p.operation
-          → ArePlacesOf history.operations (filter_map (λ p. p.place) placed) (filter_map (earlier ORIGIN) (placed_in placed))
+          → ArePlacesOf history.operations (filter_map (λ p. p.place) placed)
+          (filter_map (earlier ORIGIN) (placed_in placed))
           → ArePlacesOf history.operations (cons_option place (filter_map (λ p. p.place) placed))
           (cons_option (earlier ORIGIN p.operation) (filter_map (earlier ORIGIN) (placed_in placed)))
       one None early rest = rw (earlier_none ORIGIN p.operation early) rest
@@ -82,8 +87,10 @@ module _ (history : Contents) (lives : List Life) where
           rw was (ap₂ (λ (o : Option Operation) (os : List (Option Operation)). o ∷ os) x.1 rest)
 
 -- the merged list of all operations at their positions is the chosen order, and legal
-pub chosen_and_legal : (history : Contents) (noops : List Placed) (places : List ℕ) → IsClear (course_of history) → NoOrderViolation (course_of history)
-    → HoldsNoops history noops → IsMerge history noops places → AreChosenAndLegal history.initial history.operations places
+pub chosen_and_legal : (history : Contents) (noops : List Placed) (places : List ℕ) → IsClear (course_of history)
+    → NoOrderViolation (course_of history)
+    → HoldsNoops history noops → IsMerge history noops places
+    → AreChosenAndLegal history.initial history.operations places
 chosen_and_legal history noops places clear none noop (values, held, sorted) =
     let initial = history.initial in
     let operations = history.operations in
@@ -120,7 +127,8 @@ chosen_and_legal history noops places clear none noop (values, held, sorted) =
       legal.2,
     )
   where
-    filter_behind : (kinds : OpKind → Bool) → ((v : ℕ) → kinds (Enqueue v) ≡ false) → (time : ℕ) (values : List ℕ) (later : List Operation)
+    filter_behind : (kinds : OpKind → Bool) → ((v : ℕ) → kinds (Enqueue v) ≡ false)
+        → (time : ℕ) (values : List ℕ) (later : List Operation)
         → filter (λ o. kinds o.kind) (enqueues_from time values ++ later) ≡ filter (λ o. kinds o.kind) later
     filter_behind kinds none time [] later = refl
     filter_behind kinds none time (v ∷ values) later = rw (none v) (filter_behind kinds none (time + 1) values later)

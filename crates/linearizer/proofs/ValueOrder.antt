@@ -14,7 +14,8 @@ use Rattle.linearizer.proofs.Elements.{none_twice_from_places, NoneTwice}
 -- ---- how the next value is chosen
 
 -- the least of some lives is at most each of them
-pub least_at : (number : Life → ℕ) (lives : List Life) (least x : Life) → IsLeastBy number lives least → Contains lives x → number least ≤ number x
+pub least_at : (number : Life → ℕ) (lives : List Life) (least x : Life) → IsLeastBy number lives least
+    → Contains lives x → number least ≤ number x
 least_at number lives least x is among = All-contains (λ y. number least ≤ number y) lives x is.1 among
 
 -- the two ways to make a choice
@@ -22,7 +23,8 @@ abbrev pub IsMade : List Life → Life → Life → Life → Type 0
 IsMade remaining a b choice = ((dequeue_return b < leaves_from a) × (choice ≡ b)) ⊎ ((leaves_from a ≤ dequeue_return b) × (choice ≡ a))
 
 -- a choice is the first entered or the first dequeued
-pub made : (remaining : List Life) (choice : Life) (is : IsChoice remaining choice) → IsMade remaining is.first_entered is.first_dequeued choice
+pub made : (remaining : List Life) (choice : Life) (is : IsChoice remaining choice)
+    → IsMade remaining is.first_entered is.first_dequeued choice
 made remaining choice is = elim (cases_lt (dequeue_return is.first_dequeued) (leaves_from is.first_entered)) [
   | inl less ↦ inl (less, is.takes_dequeued less)
   | inr more ↦ inr (more, is.takes_entered more)
@@ -36,7 +38,8 @@ pub record HasTurn (lives : List Life) (x y : Life) : Type 0 where
   pub among : (z : Life) → Contains remaining z → Contains lives z
 
 -- the second of two values in order remains at the turn of the first
-pub turn_of : (lives : List Life) (i j : ℕ) (x y : Life) → EachIsChoice lives → i ≤ j → slice_get lives i ≡ Some x → slice_get lives j ≡ Some y
+pub turn_of : (lives : List Life) (i j : ℕ) (x y : Life) → EachIsChoice lives → i ≤ j → slice_get lives i ≡ Some x
+    → slice_get lives j ≡ Some y
     → HasTurn lives x y
 turn_of [] i j x y each le at_x at_y = cc
 turn_of (life ∷ rest) zero j x y each le at_x at_y = let same : life ≡ x = cc in record {
@@ -64,7 +67,8 @@ IsOpposite x y = (entered_by x < enqueue_call y) × (dequeue_return y < leaves_f
 abbrev pub MayStandBefore : Life → Life → Type 0
 MayStandBefore x y = ¬ (entered_by y < enqueue_call x) × ¬ (dequeue_return y < leaves_from x)
 
-module _ (operations : List Operation) (clear : IsClear (on operations)) (none : NoOrderViolation (on operations)) where
+module _ (operations : List Operation) (clear : IsClear (on operations))
+    (none : NoOrderViolation (on operations)) where
   -- no two values are opposite, since one would overtake the other
   no_two_opposite : (x y : Life) → IsLife (on operations) x → IsLife (on operations) y → ¬ (IsOpposite x y)
   no_two_opposite x y is_x is_y opposite =
@@ -73,7 +77,8 @@ module _ (operations : List Operation) (clear : IsClear (on operations)) (none :
       none_overtakes operations x y clear none is_x is_y (omega arith)
 
   -- the choice may come before all that remain
-  pub choice_may_stand_before : (remaining : List Life) (choice other : Life) → ((x : Life) → Contains remaining x → IsLife (on operations) x)
+  pub choice_may_stand_before : (remaining : List Life) (choice other : Life)
+      → ((x : Life) → Contains remaining x → IsLife (on operations) x)
       → IsChoice remaining choice → Contains remaining other → MayStandBefore choice other
   choice_may_stand_before remaining choice other are is among =
       let a = is.first_entered in
@@ -90,25 +95,30 @@ module _ (operations : List Operation) (clear : IsClear (on operations)) (none :
       ]
 
 -- the elements of the order of values are lives, and each life is one
-pub is_life : (operations : List Operation) (lives : List Life) → IsValueOrder (on operations) lives → (x : Life) → Contains lives x → IsLife (on operations) x
+pub is_life : (operations : List Operation) (lives : List Life) → IsValueOrder (on operations) lives → (x : Life)
+    → Contains lives x → IsLife (on operations) x
 is_life operations lives order x among =
     life_of_contained operations x (Contains-permutation lives (lives_of operations) x
     (IsPermutation-sym (lives_of operations) lives order.holds_each_once) among)
 
 -- the element at a place of the order is a life
-pub is_life_at : (operations : List Operation) (lives : List Life) (i : ℕ) (x : Life) → IsValueOrder (on operations) lives → slice_get lives i ≡ Some x
+pub is_life_at : (operations : List Operation) (lives : List Life) (i : ℕ) (x : Life)
+    → IsValueOrder (on operations) lives → slice_get lives i ≡ Some x
     → IsLife (on operations) x
 is_life_at operations lives i x order at = is_life operations lives order x (contains_at lives i x at)
 
 -- each life is in the order
-pub stands_in_order : (operations : List Operation) (lives : List Life) → IsClear (on operations) → IsValueOrder (on operations) lives → (x : Life)
+pub stands_in_order : (operations : List Operation) (lives : List Life) → IsClear (on operations)
+    → IsValueOrder (on operations) lives → (x : Life)
     → IsLife (on operations) x → Contains lives x
 stands_in_order operations lives clear order x is = Contains-permutation (lives_of operations) lives x order.holds_each_once
     (life_is_contained operations x clear is)
 
 -- each value may come before those after it
-pub may_stand_before : (operations : List Operation) (lives : List Life) (i j : ℕ) (x y : Life) → IsClear (on operations) → NoOrderViolation (on operations)
-    → IsValueOrder (on operations) lives → i ≤ j → slice_get lives i ≡ Some x → slice_get lives j ≡ Some y → MayStandBefore x y
+pub may_stand_before : (operations : List Operation) (lives : List Life) (i j : ℕ) (x y : Life)
+    → IsClear (on operations) → NoOrderViolation (on operations)
+    → IsValueOrder (on operations) lives → i ≤ j → slice_get lives i ≡ Some x → slice_get lives j ≡ Some y
+    → MayStandBefore x y
 may_stand_before operations lives i j x y clear none order le at_x at_y =
     let turn = turn_of lives i j x y order.each_is_choice le at_x at_y in
     choice_may_stand_before operations clear none turn.remaining x y (λ z among. is_life operations lives order z (turn.among z among))
@@ -155,7 +165,8 @@ choice_of x xs =
       | inr more ↦ of a.0 (λ less. absurd (omega arith)) (λ _. refl)
     ]
 
-least_in_other_order : (number : Life → ℕ) (xs ys : List Life) (life : Life) → IsPermutation xs ys → IsLeastBy number xs life → IsLeastBy number ys life
+least_in_other_order : (number : Life → ℕ) (xs ys : List Life) (life : Life) → IsPermutation xs ys
+    → IsLeastBy number xs life → IsLeastBy number ys life
 least_in_other_order number xs ys life moved is = (
   Contains-permutation xs ys life moved is.0,
   All-permutation
@@ -163,7 +174,8 @@ least_in_other_order number xs ys life moved is = (
 )
 
 -- a choice doesn't depend on the order of the values that remain
-pub choice_in_other_order : (xs ys : List Life) (life : Life) → IsPermutation xs ys → IsChoice xs life → IsChoice ys life
+pub choice_in_other_order : (xs ys : List Life) (life : Life) → IsPermutation xs ys → IsChoice xs life
+    → IsChoice ys life
 choice_in_other_order xs ys life moved is = record {
   first_entered = is.first_entered;
   first_dequeued = is.first_dequeued;
@@ -193,7 +205,8 @@ in_order (suc n) (x ∷ xs) long =
     (choice.0 ∷ rest.0, all_moved, (choice_in_other_order _ _ _ all_moved choice.1, rest.2))
 
 -- the values have an order
-pub values_have_order : (operations : List Operation) → IsClear (on operations) → (lives : List Life) × IsValueOrder (on operations) lives
+pub values_have_order : (operations : List Operation) → IsClear (on operations)
+    → (lives : List Life) × IsValueOrder (on operations) lives
 values_have_order operations clear =
     let found = in_order (length (lives_of operations)) (lives_of operations) refl in
     (found.0, record { holds_each_once = found.1; each_is_choice = found.2 })
@@ -205,13 +218,15 @@ pub record AreSame {X : Type 0} (xs ys : List X) : Type 0 where
   pub first_once : NoneTwice xs
   pub second_once : NoneTwice ys
 
-least_alike : (number : Life → ℕ) (xs ys : List Life) (a b : Life) → AreSame xs ys → IsLeastBy number xs a → IsLeastBy number ys b → number a ≡ number b
+least_alike : (number : Life → ℕ) (xs ys : List Life) (a b : Life) → AreSame xs ys → IsLeastBy number xs a
+    → IsLeastBy number ys b → number a ≡ number b
 least_alike number xs ys a b same is_a is_b =
     let first = least_at number xs a b is_a (same.back b is_b.0) in
     let second = least_at number ys b a is_b (same.into a is_a.0) in
     omega arith
 
-one_choice : (operations : List Operation) (xs ys : List Life) (c d : Life) → IsClear (on operations) → ((x : Life) → Contains xs x → IsLife (on operations) x)
+one_choice : (operations : List Operation) (xs ys : List Life) (c d : Life) → IsClear (on operations)
+    → ((x : Life) → Contains xs x → IsLife (on operations) x)
     → AreSame xs ys → IsChoice xs c → IsChoice ys d → c ≡ d
 one_choice operations xs ys c d clear are same is_c is_d =
     let a = is_c.first_entered in let a' = is_d.first_entered in
@@ -248,13 +263,15 @@ rest_alike {X} x y xs ys one same = record {
   second_once = same.second_once.1;
 }
   where
-    behind : (x y : X) (xs ys : List X) (z : X) → x ≡ y → ¬ (Contains xs x) → Contains xs z → Contains (y ∷ ys) z → Contains ys z
+    behind : (x y : X) (xs ys : List X) (z : X) → x ≡ y → ¬ (Contains xs x) → Contains xs z → Contains (y ∷ ys) z
+        → Contains ys z
     behind x y xs ys z one none among there = elim (contains_cons y ys z there) [
       | inl here ↦ absurd (none (subst (Contains xs) (sym (one ∙ here)) among))
       | inr later ↦ later
     ]
 
-one_order : (operations : List Operation) (xs ys : List Life) → IsClear (on operations) → ((x : Life) → Contains xs x → IsLife (on operations) x)
+one_order : (operations : List Operation) (xs ys : List Life) → IsClear (on operations)
+    → ((x : Life) → Contains xs x → IsLife (on operations) x)
     → AreSame xs ys → EachIsChoice xs → EachIsChoice ys → xs ≡ ys
 one_order operations [] [] clear are same each each' = refl
 one_order operations [] (y ∷ ys) clear are same each each' = absurd (not_in_none y (same.back y (zero, omega arith, refl)))
@@ -265,7 +282,8 @@ one_order operations (x ∷ xs) (y ∷ ys) clear are same each each' =
     cc
 
 -- the values have only one order
-pub values_have_one_order : (operations : List Operation) (xs ys : List Life) → IsClear (on operations) → IsValueOrder (on operations) xs
+pub values_have_one_order : (operations : List Operation) (xs ys : List Life) → IsClear (on operations)
+    → IsValueOrder (on operations) xs
     → IsValueOrder (on operations) ys → xs ≡ ys
 values_have_one_order operations xs ys clear order order' = one_order _ xs ys clear (is_life _ xs order) (record {
   into = λ x among. Contains-permutation _ ys x order'.holds_each_once

@@ -27,7 +27,8 @@ use Rattle.value_match.proofs.HistoryPlaces.{clear_life, clear_on, life_value, m
 use Rattle.value_match.proofs.Lists.{one_more}
 
 -- the dequeue of a life is a dequeue of its value
-pub did_dequeue : (operations : List Operation) (life : Life) (d : Operation) (is : IsLife (on operations) life) → dequeue_of life ≡ Some d
+pub did_dequeue : (operations : List Operation) (life : Life) (d : Operation) (is : IsLife (on operations) life)
+    → dequeue_of life ≡ Some d
     → Did operations d (Dequeue is.0)
 did_dequeue operations life d is dequeues = MatchOption-at_some (NoneDid operations (Dequeue is.0)) (λ d. Did operations d (Dequeue is.0)) d dequeues is.2
 
@@ -52,14 +53,16 @@ called_first operations p q None b complete below at_x at_y = elim at_x [ ]
 called_first operations p q (Some x) None complete below at_x at_y = elim at_y [ ]
 
 -- without an order violation, no value overtakes another
-pub none_overtakes : (operations : List Operation) (a b : Life) → IsClear (on operations) → NoOrderViolation (on operations) → IsLife (on operations) a
+pub none_overtakes : (operations : List Operation) (a b : Life) → IsClear (on operations)
+    → NoOrderViolation (on operations) → IsLife (on operations) a
     → IsLife (on operations) b → ¬ (Overtakes b a)
 none_overtakes operations a b clear none is_a is_b overtakes =
     let last = (called_by operations is_a.0 (dequeue_of a) clear.complete is_a.2).0 in
     let called = (called_by operations is_b.0 (dequeue_of b) clear.complete is_b.2).1 (omega (arith, overtakes.1)) in
     none a b (record { is_a = is_a; is_b = is_b; is_dequeued = called; overtakes = overtakes })
 
-place_there : (operations : List Operation) (place : Option ℕ) (o : Option Operation) (d : Operation) → IsMaybeAt operations place o → o ≡ Some d
+place_there : (operations : List Operation) (place : Option ℕ) (o : Option Operation) (d : Operation)
+    → IsMaybeAt operations place o → o ≡ Some d
     → (p : ℕ) × (place ≡ Some p)
 place_there operations (Some p) o d at is = (p, refl)
 place_there operations None None d at is = cc
@@ -93,7 +96,8 @@ module _ (history : Contents) (clear : IsClear (course_of history)) where
     is_value : (value : MatchedValue) → Contains values value → IsLife (course_of history) value.life
     is_value = value_lives history.initial history.operations clear values holds
 
-    pub a_value : (life : Life) → IsLife (course_of history) life → (value : MatchedValue) × Contains values value × (value.life ≡ life)
+    pub a_value : (life : Life) → IsLife (course_of history) life
+        → (value : MatchedValue) × Contains values value × (value.life ≡ life)
     a_value = life_value history.initial history.operations clear values holds
 
     -- if no value overtakes another, there is no order violation
@@ -125,7 +129,8 @@ module _ (history : Contents) (clear : IsClear (course_of history)) where
     first_found None none = no_overtaking none
     first_found (Some b) is = first_of_lives b is
 
-    module _ (a b : MatchedValue) (first : IsFirstOvertaker history b) (longest : IsLongestOf (Overtakes b.life) values a) where
+    module _ (a b : MatchedValue) (first : IsFirstOvertaker history b)
+        (longest : IsLongestOf (Overtakes b.life) values a) where
       stays_longest : (other : Life) → IsOrderViolation (course_of history) other b.life → StaysAtLeast a.life other
       stays_longest other violation =
           let (x, among, same) = a_value other violation.is_a in
@@ -144,7 +149,8 @@ module _ (history : Contents) (clear : IsClear (course_of history)) where
 
       -- the first value that overtakes another, with the longest-staying value that it overtakes, is the chosen pair
       is_chosen_pair : (p : ℕ) → b.dequeue ≡ Some p
-          → IsChosenPair history.initial history.operations (record { enq_a = a.source; enq_b = b.source; deq_b = p; deq_a = a.dequeue })
+          → IsChosenPair history.initial history.operations
+          (record { enq_a = a.source; enq_b = b.source; deq_b = p; deq_a = a.dequeue })
       is_chosen_pair p named = record {
         a = a.life;
         b = b.life;
@@ -172,13 +178,15 @@ module _ (history : Contents) (clear : IsClear (course_of history)) where
 abbrev ComesNoLater : List MatchedValue → MatchedValue → MatchedValue → Type 0
 ComesNoLater values b other = (a : MatchedValue) → Contains values a → Overtakes other.life a.life → dequeue_return b.life ≤ dequeue_return other.life
 
-overtake_nobody : (values candidates : List MatchedValue) (b : MatchedValue) → All (λ other. NonePasses (Overtakes other.life) values) candidates
+overtake_nobody : (values candidates : List MatchedValue) (b : MatchedValue)
+    → All (λ other. NonePasses (Overtakes other.life) values) candidates
     → All (ComesNoLater values b) candidates
 overtake_nobody values candidates b none k d within a among overtakes =
     absurd (All-contains (λ a. ¬ (Overtakes (get_or candidates k d).life a.life)) values a (none k d within) among overtakes)
 
 -- the first of some candidates is the first of others, if none of these is sooner
-first_of : (values side candidates : List MatchedValue) (x : MatchedValue) → IsFirstOvertaking values side x → Contains candidates x
+first_of : (values side candidates : List MatchedValue) (x : MatchedValue) → IsFirstOvertaking values side x
+    → Contains candidates x
     → All (ComesNoLater values x) candidates → IsFirstOvertaking values candidates x
 first_of values side candidates x is among first = record {
   among = among;
@@ -189,7 +197,8 @@ first_of values side candidates x is among first = record {
 }
 
 -- a candidate dequeued no later than the first ones of two lists is the first of all
-pub sooner_is_first : (values low high side : List MatchedValue) (a b r : MatchedValue) → IsFirstOvertaking values low a → IsFirstOvertaking values high b
+pub sooner_is_first : (values low high side : List MatchedValue) (a b r : MatchedValue)
+    → IsFirstOvertaking values low a → IsFirstOvertaking values high b
     → IsFirstOvertaking values side r → Contains (low ++ high) r → dequeue_return r.life ≤ dequeue_return a.life
     → dequeue_return r.life ≤ dequeue_return b.life → IsFirstOvertaking values (low ++ high) r
 sooner_is_first values low high side a b r is_a is_b is among before_a before_b =
@@ -204,14 +213,16 @@ low_is_first values low high a is none = first_of values low (low ++ high) a is 
     (All-append (ComesNoLater values a) low high is.first (overtake_nobody values high a none))
 
 -- if none of the first part overtakes a value, the first of the second part is the first of all
-pub high_is_first : (values low high : List MatchedValue) (found : Option MatchedValue) → All (λ b. NonePasses (Overtakes b.life) values) low
+pub high_is_first : (values low high : List MatchedValue) (found : Option MatchedValue)
+    → All (λ b. NonePasses (Overtakes b.life) values) low
     → FindsFirst values high found → FindsFirst values (low ++ high) found
 high_is_first values low high None none not = All-append (λ b. NonePasses (Overtakes b.life) values) low high none not
 high_is_first values low high (Some b) none is = first_of values high (low ++ high) b is (Contains-append_right low high b is.among)
     (All-append (ComesNoLater values b) low high (overtake_nobody values low b none) is.first)
 
 -- a single candidate is the first
-first_of_one : (values : List MatchedValue) (x a : MatchedValue) → Contains values a → Overtakes x.life a.life → IsFirstOvertaking values (x ∷ []) x
+first_of_one : (values : List MatchedValue) (x a : MatchedValue) → Contains values a → Overtakes x.life a.life
+    → IsFirstOvertaking values (x ∷ []) x
 first_of_one values x a among overtakes = record {
   among = Contains-push [] x;
   overtaken = a;
@@ -221,7 +232,8 @@ first_of_one values x a among overtakes = record {
 }
 
 -- the next candidate overtakes none
-pub first_stays : (values candidates : List MatchedValue) (i : ℕ) (x : MatchedValue) (first : Option MatchedValue) → i < length candidates
+pub first_stays : (values candidates : List MatchedValue) (i : ℕ) (x : MatchedValue) (first : Option MatchedValue)
+    → i < length candidates
     → x ≡ get_or candidates i x → FindsFirst values (take i candidates) first
     → NonePasses (Overtakes x.life) values → FindsFirst values (take (i + 1) candidates) first
 first_stays values candidates i x first within is so_far not =
@@ -230,12 +242,14 @@ first_stays values candidates i x first within is so_far not =
     nobody : All (λ b. NonePasses (Overtakes b.life) values) (x ∷ [])
     nobody = All-push (λ b. NonePasses (Overtakes b.life) values) [] x (All-nil (λ b. NonePasses (Overtakes b.life) values)) not
 
-    go : (first : Option MatchedValue) → FindsFirst values (take i candidates) first → FindsFirst values (take i candidates ++ x ∷ []) first
+    go : (first : Option MatchedValue) → FindsFirst values (take i candidates) first
+        → FindsFirst values (take i candidates ++ x ∷ []) first
     go None none = All-append (λ b. NonePasses (Overtakes b.life) values) (take i candidates) (x ∷ []) none nobody
     go (Some a) is_a = low_is_first values (take i candidates) (x ∷ []) a is_a nobody
 
 -- the next candidate overtakes a value
-pub first_changes : (values candidates : List MatchedValue) (i : ℕ) (x a : MatchedValue) (first found : Option MatchedValue) → i < length candidates
+pub first_changes : (values candidates : List MatchedValue) (i : ℕ) (x a : MatchedValue)
+    (first found : Option MatchedValue) → i < length candidates
     → x ≡ get_or candidates i x → FindsFirst values (take i candidates) first → Contains values a → Overtakes x.life a.life
     → ((values xs ys : List MatchedValue) → FindsFirst values xs first → FindsFirst values ys (Some x) → FindsFirst values (xs ++ ys) found)
     → FindsFirst values (take (i + 1) candidates) found
@@ -245,11 +259,13 @@ first_changes values candidates i x a first found within is so_far among overtak
 
 -- the values that b overtakes are among those that entered before it, so the longest of these is the longest that b
 -- overtakes, unless b overtakes none
-pub none_overtaken : (values : List MatchedValue) (b : Life) → NonePasses (EntersBefore (enqueue_call b)) values → NonePasses (Overtakes b) values
+pub none_overtaken : (values : List MatchedValue) (b : Life) → NonePasses (EntersBefore (enqueue_call b)) values
+    → NonePasses (Overtakes b) values
 none_overtaken values b none k d within overtakes = none k d within overtakes.0
 
 -- b overtakes the longest of those before it, if b is dequeued before it
-pub longest_is_overtaken : (values : List MatchedValue) (b : Life) (a : MatchedValue) → IsLongestOf (EntersBefore (enqueue_call b)) values a
+pub longest_is_overtaken : (values : List MatchedValue) (b : Life) (a : MatchedValue)
+    → IsLongestOf (EntersBefore (enqueue_call b)) values a
     → dequeue_return b < dequeue_call a.life → IsLongestOf (Overtakes b) values a
 longest_is_overtaken values b a is later = record {
   among = is.among;
@@ -258,29 +274,34 @@ longest_is_overtaken values b a is later = record {
 }
 
 -- if b doesn't overtake the longest of those before it, it overtakes none
-pub longest_is_not_overtaken : (values : List MatchedValue) (b : Life) (a : MatchedValue) → IsLongestOf (EntersBefore (enqueue_call b)) values a
+pub longest_is_not_overtaken : (values : List MatchedValue) (b : Life) (a : MatchedValue)
+    → IsLongestOf (EntersBefore (enqueue_call b)) values a
     → dequeue_call a.life ≤ dequeue_return b → NonePasses (Overtakes b) values
 longest_is_not_overtaken values b a is sooner k d within overtakes = omega (arith, (is.longest k d within overtakes.0).0, overtakes.1)
 
 -- if a longest overtaken value was found, a value is overtaken
-pub overtaken_one : (values : List MatchedValue) (b : Life) (longest : Option MatchedValue) → FindsLongest (Overtakes b) values longest
+pub overtaken_one : (values : List MatchedValue) (b : Life) (longest : Option MatchedValue)
+    → FindsLongest (Overtakes b) values longest
     → is_some longest ≡ true → (a : MatchedValue) × Contains values a × Overtakes b a.life
 overtaken_one values b None none some = cc
 overtaken_one values b (Some a) is some = (a, is.among, is.passes)
 
 -- if none is found, none is overtaken
-pub overtaken_none : (values : List MatchedValue) (b : Life) (longest : Option MatchedValue) → FindsLongest (Overtakes b) values longest
+pub overtaken_none : (values : List MatchedValue) (b : Life) (longest : Option MatchedValue)
+    → FindsLongest (Overtakes b) values longest
     → is_some longest ≡ false → NonePasses (Overtakes b) values
 overtaken_none values b None none not = none
 overtaken_none values b (Some a) is not = cc
 
 -- the next value doesn't pass
-pub longest_stays : (Passes : Life → Type 0) (values : List MatchedValue) (i : ℕ) (x : MatchedValue) (found : Option MatchedValue) → i < length values
+pub longest_stays : (Passes : Life → Type 0) (values : List MatchedValue) (i : ℕ) (x : MatchedValue)
+    (found : Option MatchedValue) → i < length values
     → x ≡ get_or values i x → FindsLongest Passes (take i values) found → ¬ (Passes x.life) → FindsLongest Passes (take (i + 1) values) found
 longest_stays Passes values i x found within is so_far not =
     subst (λ seen. FindsLongest Passes seen found) (sym (one_more values i x within is)) (go found so_far)
   where
-    go : (found : Option MatchedValue) → FindsLongest Passes (take i values) found → FindsLongest Passes (take i values ++ x ∷ []) found
+    go : (found : Option MatchedValue) → FindsLongest Passes (take i values) found
+        → FindsLongest Passes (take i values ++ x ∷ []) found
     go None none = All-push (λ value. ¬ (Passes value.life)) (take i values) x none not
     go (Some a) is_a = record {
       among = Contains-append_left (take i values) (x ∷ []) a is_a.among;

@@ -8,7 +8,8 @@ use Rattle.std.proofs.lemmas.Bool.{cases_eq, eq-eqb, ne_eqb}
 use Rattle.std.proofs.lemmas.List.{append-nil, map-id, map_push}
 use Rattle.std.proofs.lemmas.List.Concat.{flat_map-append}
 use Rattle.std.proofs.lemmas.List.FromFn.{map-range_with_len_more}
-use Rattle.std.proofs.lemmas.List.Sorted.{IsPermutation-refl, IsPermutation-trans, IsPermutation-append_left, IsPermutation-append_right}
+use Rattle.std.proofs.lemmas.List.Sorted.{IsPermutation-refl, IsPermutation-trans, IsPermutation-append_left}
+use Rattle.std.proofs.lemmas.List.Sorted.{IsPermutation-append_right}
 use Rattle.std.proofs.lemmas.List.Sorted.{IsPermutation-append_comm, sum_by-IsPermutation}
 use Rattle.std.proofs.lemmas.List.Sums.{sum_by-cons}
 use Rattle.recorder_core.proofs.Members.{pairs_cons}
@@ -37,7 +38,8 @@ no_blocks zero = refl
 no_blocks (suc n) = no_blocks n ∙ sym (append-nil _)
 
 -- one block grows at its end, and the others don't change
-pub blocks_grow : {X : Type 0} (f g : ℕ → List X) (u n : ℕ) (more : List X) → u < n → g u ≡ f u ++ more → ((t : ℕ) → (u ≡ t → ⊥) → g t ≡ f t)
+pub blocks_grow : {X : Type 0} (f g : ℕ → List X) (u n : ℕ) (more : List X) → u < n → g u ≡ f u ++ more
+    → ((t : ℕ) → (u ≡ t → ⊥) → g t ≡ f t)
     → IsPermutation (blocks f n ++ more) (blocks g n)
 blocks_grow f g u zero more within here others = absurd (omega arith)
 blocks_grow {X} f g u (suc n) more within here others = elim (cases_eq u n) [
@@ -57,7 +59,8 @@ blocks_grow {X} f g u (suc n) more within here others = elim (cases_eq u n) [
 ]
 
 -- one block grows at its front, and the others don't change
-pub blocks_lead : {X : Type 0} (f g : ℕ → List X) (u n : ℕ) (more : List X) → u < n → g u ≡ more ++ f u → ((t : ℕ) → (u ≡ t → ⊥) → g t ≡ f t)
+pub blocks_lead : {X : Type 0} (f g : ℕ → List X) (u n : ℕ) (more : List X) → u < n → g u ≡ more ++ f u
+    → ((t : ℕ) → (u ≡ t → ⊥) → g t ≡ f t)
     → IsPermutation (more ++ blocks f n) (blocks g n)
 blocks_lead f g u zero more within here others = absurd (omega arith)
 blocks_lead {X} f g u (suc n) more within here others = elim (cases_eq u n) [
@@ -110,7 +113,8 @@ at_least_one p (y ∷ xs) x among passes = elim (contains_cons y xs x among) [
 ]
 
 -- the first element of a list and a later one have different keys
-first_apart : {X : Type 0} (key : X → ℕ) (x : X) (xs : List X) (y : X) → Once key (x ∷ xs) → Contains xs y → key x ≢ key y
+first_apart : {X : Type 0} (key : X → ℕ) (x : X) (xs : List X) (y : X) → Once key (x ∷ xs) → Contains xs y
+    → key x ≢ key y
 first_apart key x xs y once among same =
     let here : ◌≡◌ {A = ℕ} (cond (eqb (key x) (key y)) 1 0) 1 = rw (eq-eqb (key x) (key y) same) refl in
     let there = at_least_one (λ z. eqb (key z) (key y)) xs y among (eq-eqb (key y) (key y) refl) in
@@ -120,7 +124,8 @@ once_later : {X : Type 0} (key : X → ℕ) (x : X) (xs : List X) → Once key (
 once_later key x xs once v = omega (arith, once v, sum_by-cons (λ z. cond (eqb (key z) v) 1 0) x xs)
 
 -- elements with the same key are equal, in a list without repeated keys
-pub once_same : {X : Type 0} (key : X → ℕ) (xs : List X) (x y : X) → Once key xs → Contains xs x → Contains xs y → key x ≡ key y → x ≡ y
+pub once_same : {X : Type 0} (key : X → ℕ) (xs : List X) (x y : X) → Once key xs → Contains xs x → Contains xs y
+    → key x ≡ key y → x ≡ y
 once_same key [] x y once in_x in_y same = absurd (not_in_none x in_x)
 once_same key (z ∷ xs) x y once in_x in_y same = elim (contains_cons z xs x in_x) [
   | inl here ↦ elim (contains_cons z xs y in_y) [
@@ -147,7 +152,8 @@ once_permutation key xs ys moved once v = omega (arith, once v, sum_by-IsPermuta
 pub once_map : {X : Type 0} (key : X → ℕ) (xs : List X) → Once (λ n. n) (map key xs) → Once key xs
 once_map key xs once v = omega (arith, once v, count_map key v xs)
   where
-    count_map : {Y : Type 0} (k : Y → ℕ) (w : ℕ) (ys : List Y) → count_by (λ y. eqb (k y) w) ys ≡ count_by (λ n. eqb n w) (map k ys)
+    count_map : {Y : Type 0} (k : Y → ℕ) (w : ℕ) (ys : List Y)
+        → count_by (λ y. eqb (k y) w) ys ≡ count_by (λ n. eqb n w) (map k ys)
     count_map k w [] = refl
     count_map k w (y ∷ ys) = omega (
       arith,

@@ -7,7 +7,8 @@ use Rattle.std.specs.Option.{option_map}
 use Rattle.recorder_core.specs.declared.step.Step.{Step}
 use Rattle.recorder_core.specs.declared.step.Step.TheVariants.{AskEnq, AskDeq, Push, Effect, Say, Ret, Drain, Close}
 use Rattle.recorder_core.specs.Setting.{Setting}
-use Rattle.recorder_core.specs.Schedule.{Attempt, refusal, accepted, asks, answers, returns, pushes, drained, events, with_last, answered, thread_of}
+use Rattle.recorder_core.specs.Schedule.{Attempt, refusal, accepted, asks, answers, returns, pushes, drained, events}
+use Rattle.recorder_core.specs.Schedule.{with_last, answered, thread_of}
 use Rattle.recorder_core.proofs.Runs.{same_number, after_each, may_ask, may_push, may_effect, may_say, may_return}
 
 -- relations between the counts of one thread
@@ -52,12 +53,14 @@ module _ (ring a n r p d e : ℕ) (k : AreCounts ring a n r p d e) where
 pub length-with_last : {X : Type 0} (items : List X) (x : X) → length (items ++ x ∷ []) ≡ suc (length items)
 length-with_last items x = omega (arith, length-append items (x ∷ []))
 
-length-with_map : {X Y : Type 0} (items : List Y) (f : X → Y) (o : Option X) → is_some o ≡ true → length (with_last items (option_map f o)) ≡ suc (length items)
+length-with_map : {X Y : Type 0} (items : List Y) (f : X → Y) (o : Option X) → is_some o ≡ true
+    → length (with_last items (option_map f o)) ≡ suc (length items)
 length-with_map items f None h = cc
 length-with_map items f (Some x) h = length-with_last items (f x)
 
 -- if a thread was answered, it has a last answer
-pub has_answer : (setting : Setting) (t : ℕ) (steps : List Step) → 0 < answers t steps → is_some (answered setting t steps) ≡ true
+pub has_answer : (setting : Setting) (t : ℕ) (steps : List Step) → 0 < answers t steps
+    → is_some (answered setting t steps) ≡ true
 has_answer setting t [] h = absurd (omega arith)
 has_answer setting t (AskEnq u ∷ before) h = has_answer setting t before h
 has_answer setting t (AskDeq u ∷ before) h = has_answer setting t before h
@@ -75,7 +78,8 @@ has_answer setting t (Say u answer ∷ before) h = elim (cases_eq u t) [
 ]
 
 -- a step of another thread leaves the counts
-other_counts : (setting : Setting) (t : ℕ) (step : Step) (before : List Step) → (thread_of step ≡ t → ⊥) → Counted setting t before
+other_counts : (setting : Setting) (t : ℕ) (step : Step) (before : List Step) → (thread_of step ≡ t → ⊥)
+    → Counted setting t before
     → Counted setting t (step ∷ before)
 other_counts setting t (AskEnq u) before ne k = rw (ne_eqb u t ne) k
 other_counts setting t (AskDeq u) before ne k = rw (ne_eqb u t ne) k
@@ -87,8 +91,10 @@ other_counts setting t (Drain u m) before ne k = rw (ne_eqb u t ne) k
 other_counts setting t (Close u) before ne k = k
 
 -- a step that isn't refused keeps the relations of the counts
-own_counts : (setting : Setting) (step : Step) (starved : Bool) (before : List Step) → Counted setting (thread_of step) before
-    → refusal setting before (record { step = step; starved = starved }) ≡ None → Counted setting (thread_of step) (step ∷ before)
+own_counts : (setting : Setting) (step : Step) (starved : Bool) (before : List Step)
+    → Counted setting (thread_of step) before
+    → refusal setting before (record { step = step; starved = starved }) ≡ None
+    → Counted setting (thread_of step) (step ∷ before)
 own_counts setting (AskEnq u) starved before k none =
     let m = may_ask setting before u starved none in
     rw (same_number u, length-with_last (events setting u before)) (counts_asked _ _ _ _ _ _ _ k m.none_held m.none_pending)

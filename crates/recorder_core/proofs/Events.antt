@@ -22,7 +22,8 @@ use Rattle.recorder_core.specs.declared.pending.Request.{Request}
 use Rattle.recorder_core.specs.declared.pending.Request.TheVariants.{Enqueue, Dequeue}
 use Rattle.recorder_core.specs.Inner.Asked.{asked_for, call_of}
 use Rattle.recorder_core.specs.Setting.{Setting}
-use Rattle.recorder_core.specs.Schedule.{Attempt, refusal, accepted, asks, answers, returns, tickets, request, answered, events, is_wrong}
+use Rattle.recorder_core.specs.Schedule.{Attempt, refusal, accepted, asks, answers, returns, tickets, request}
+use Rattle.recorder_core.specs.Schedule.{answered, events, is_wrong}
 use Rattle.recorder_core.specs.Schedule.{queue_answer, effect_answer, queue, thread_of}
 use Rattle.recorder_core.proofs.Runs.{same_number, after_each, may_ask, may_effect, may_say, may_return}
 use Rattle.recorder_core.proofs.Counts.{Counted, counts_none, counts_go_on}
@@ -46,25 +47,30 @@ pub record IsBusy (asked : Option Request) (events : List Event) : Type 0 where
 
 -- the events of t, after this many asks, answers and returns of t and this many tickets, with its last request and
 -- its last answer
-pub record AreEventsOf (t a n r next : ℕ) (asked : Option Request) (told : Option Answer) (events : List Event) : Type 0 where
+pub record AreEventsOf (t a n r next : ℕ) (asked : Option Request) (told : Option Answer)
+    (events : List Event) : Type 0 where
   pub own : All (λ e. e.thread ≡ t) events
   pub below : All (λ e. e.ticket < next) events
   pub rise : TicketsRise events
-  pub named : (k value : ℕ) (call : Event) → slice_get events (2 * k) ≡ Some call → call.what ≡ CallEnq value → value ≡ value_name t k
+  pub named : (k value : ℕ) (call : Event) → slice_get events (2 * k) ≡ Some call → call.what ≡ CallEnq value
+      → value ≡ value_name t k
   pub idle : a ≡ r → TakesTurns events
   pub busy : r < a → IsBusy asked events
   pub fits : r < n → Fits asked told
   pub few : a ≤ MAX_THREAD_OPERATIONS
 
-turns_push : (events : List Event) (call answer : Event) → TakesTurns events → answers_call call.what answer.what ≡ true
+turns_push : (events : List Event) (call answer : Event) → TakesTurns events
+    → answers_call call.what answer.what ≡ true
     → TakesTurns (events ++ call ∷ answer ∷ [])
 turns_push [] call answer turns fit = (fit, tt)
 turns_push (e ∷ []) call answer turns fit = absurd turns
 turns_push (e ∷ f ∷ rest) call answer turns fit = (turns.0, turns_push rest call answer turns.1 fit)
 
 -- a property of each answer of an operation's kind holds of each answer that isn't wrong
-pub of_right_answers : (P : Request → Answer → Type 0) → ((v : ℕ) → P (Enqueue v) Taken) → ((v : ℕ) → P (Enqueue v) Not)
-    → ((w : ℕ) → P Dequeue (Got w)) → P Dequeue Empty → (asked : Request) (answer : Answer) → is_wrong answer (Some asked) ≡ false → P asked answer
+pub of_right_answers : (P : Request → Answer → Type 0) → ((v : ℕ) → P (Enqueue v) Taken)
+    → ((v : ℕ) → P (Enqueue v) Not)
+    → ((w : ℕ) → P Dequeue (Got w)) → P Dequeue Empty → (asked : Request) (answer : Answer)
+    → is_wrong answer (Some asked) ≡ false → P asked answer
 of_right_answers P taken refused got empty (Enqueue v) Taken right = taken v
 of_right_answers P taken refused got empty (Enqueue v) Not right = refused v
 of_right_answers P taken refused got empty (Enqueue v) (Got w) right = cc
@@ -74,7 +80,8 @@ of_right_answers P taken refused got empty Dequeue Not right = cc
 of_right_answers P taken refused got empty Dequeue (Got w) right = got w
 of_right_answers P taken refused got empty Dequeue Empty right = empty
 
-answer_fits : (asked : Request) (answer : Answer) → is_wrong answer (Some asked) ≡ false → answers_call (call_of asked) (return_what answer) ≡ true
+answer_fits : (asked : Request) (answer : Answer) → is_wrong answer (Some asked) ≡ false
+    → answers_call (call_of asked) (return_what answer) ≡ true
 answer_fits =
     of_right_answers (λ asked answer. answers_call (call_of asked) (return_what answer) ≡ true) (λ v. refl) (λ v. refl) (λ w. refl) refl
 
@@ -102,7 +109,8 @@ events_none t = record {
   few = omega arith;
 }
 
-module _ (t a n r next : ℕ) (asked : Option Request) (told : Option Answer) (list : List Event) (k : AreEventsOf t a n r next asked told list) where
+module _ (t a n r next : ℕ) (asked : Option Request) (told : Option Answer) (list : List Event)
+    (k : AreEventsOf t a n r next asked told list) where
   -- the same events, after other tickets were drawn and other answers given
   same_events : (n' next' : ℕ) (told' : Option Answer) → All (λ e. e.ticket < next') list → (r < n' → Fits asked told')
       → AreEventsOf t a n' r next' asked told' list
@@ -116,7 +124,8 @@ module _ (t a n r next : ℕ) (asked : Option Request) (told : Option Answer) (l
   own_more : (what : What) → All (λ e. e.thread ≡ t) (list ++ record { ticket = next; thread = t; what = what } ∷ [])
   own_more what = All-push (λ e. e.thread ≡ t) list _ k.own refl
 
-  below_more : (what : What) → All (λ e. e.ticket < suc next) (list ++ record { ticket = next; thread = t; what = what } ∷ [])
+  below_more : (what : What)
+      → All (λ e. e.ticket < suc next) (list ++ record { ticket = next; thread = t; what = what } ∷ [])
   below_more what = All-push (λ e. e.ticket < suc next) list _ (events_later (suc next) (omega arith)).below (omega arith)
 
   rise_more : (what : What) → TicketsRise (list ++ record { ticket = next; thread = t; what = what } ∷ [])
@@ -149,11 +158,13 @@ module _ (t a n r next : ℕ) (asked : Option Request) (told : Option Answer) (l
     few = few;
   }
 
-  events_answered : (answer : Answer) → Fits asked (Some answer) → AreEventsOf t a (suc n) r next asked (Some answer) list
+  events_answered : (answer : Answer) → Fits asked (Some answer)
+      → AreEventsOf t a (suc n) r next asked (Some answer) list
   events_answered answer right = same_events (suc n) next (Some answer) k.below (λ less. right)
 
   events_returned : length list ≡ a + r → a ≡ suc r → n ≤ a → (answer : Answer) → told ≡ Some answer → r < n
-      → AreEventsOf t a n (suc r) (suc next) asked told (list ++ record { ticket = next; thread = t; what = return_what answer } ∷ [])
+      → AreEventsOf t a n (suc r) (suc next) asked told
+      (list ++ record { ticket = next; thread = t; what = return_what answer } ∷ [])
   events_returned long one_pending answered_below answer told_is has_answer =
       let b = k.busy (omega arith) in
       let right : is_wrong answer (Some b.request) ≡ false = rw (b.asked_is, told_is) at (k.fits has_answer) in
@@ -181,7 +192,8 @@ Recorded setting t steps = AreEventsOf t (asks t steps) (answers t steps) (retur
     (answered setting t steps) (events setting t steps)
 
 -- a step of another thread
-other_events : (setting : Setting) (t : ℕ) (step : Step) (before : List Step) → (thread_of step ≡ t → ⊥) → Recorded setting t before
+other_events : (setting : Setting) (t : ℕ) (step : Step) (before : List Step) → (thread_of step ≡ t → ⊥)
+    → Recorded setting t before
     → Recorded setting t (step ∷ before)
 other_events setting t (AskEnq u) before ne k = rw (ne_eqb u t ne) (events_later _ _ _ _ _ _ _ _ k (suc (tickets before)) (omega arith))
 other_events setting t (AskDeq u) before ne k = rw (ne_eqb u t ne) (events_later _ _ _ _ _ _ _ _ k (suc (tickets before)) (omega arith))
@@ -193,12 +205,14 @@ other_events setting t (Drain u n) before ne k = k
 other_events setting t (Close u) before ne k = k
 
 -- the request of the pending operation
-pub asked_last : (setting : Setting) (t : ℕ) (before : List Step) → Recorded setting t before → returns t before < asks t before
+pub asked_last : (setting : Setting) (t : ℕ) (before : List Step) → Recorded setting t before
+    → returns t before < asks t before
     → (q : Request) × (request t before ≡ Some q)
 asked_last setting t before k less = let b = k.busy less in (b.request, b.asked_is)
 
 -- the answer of a thread that may return
-pub told_last : (setting : Setting) (t : ℕ) (before : List Step) → Recorded setting t before → returns t before < answers t before
+pub told_last : (setting : Setting) (t : ℕ) (before : List Step) → Recorded setting t before
+    → returns t before < answers t before
     → (a : Answer) × (answered setting t before ≡ Some a)
 told_last setting t before k less = some_told (request t before) (answered setting t before) (k.fits less)
   where
@@ -207,8 +221,10 @@ told_last setting t before k less = some_told (request t before) (answered setti
     some_told (Some q) None f = absurd f
     some_told (Some q) (Some a) f = (a, refl)
 
-own_events : (setting : Setting) (step : Step) (starved : Bool) (before : List Step) → Counted setting (thread_of step) before
-    → Recorded setting (thread_of step) before → refusal setting before (record { step = step; starved = starved }) ≡ None
+own_events : (setting : Setting) (step : Step) (starved : Bool) (before : List Step)
+    → Counted setting (thread_of step) before
+    → Recorded setting (thread_of step) before
+    → refusal setting before (record { step = step; starved = starved }) ≡ None
     → Recorded setting (thread_of step) (step ∷ before)
 own_events setting (AskEnq u) starved before c k none =
     let m = may_ask setting before u starved none in
@@ -240,7 +256,8 @@ abbrev pub CountedAndRecorded : Setting → ℕ → List Step → Type 0
 CountedAndRecorded setting t steps = Counted setting t steps × Recorded setting t steps
 
 -- the counts and the events after one more step
-pub recorded_goes_on : (setting : Setting) (t : ℕ) (before : List Step) (attempt : Attempt) → CountedAndRecorded setting t before
+pub recorded_goes_on : (setting : Setting) (t : ℕ) (before : List Step) (attempt : Attempt)
+    → CountedAndRecorded setting t before
     → refusal setting before attempt ≡ None → CountedAndRecorded setting t (attempt.step ∷ before)
 recorded_goes_on setting t before attempt k none = (
   counts_go_on setting t before attempt k.0 none,
@@ -253,5 +270,6 @@ recorded_goes_on setting t before attempt k none = (
 )
 
 -- the counts of a thread, and its events by them, after every schedule
-pub recorded : (setting : Setting) (t : ℕ) (schedule : List Attempt) → CountedAndRecorded setting t (accepted setting schedule)
+pub recorded : (setting : Setting) (t : ℕ) (schedule : List Attempt)
+    → CountedAndRecorded setting t (accepted setting schedule)
 recorded setting t schedule = after_each setting (CountedAndRecorded setting t) (counts_none setting.ring, events_none t) (recorded_goes_on setting t) schedule

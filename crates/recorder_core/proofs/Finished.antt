@@ -1,5 +1,6 @@
 -- A machine is done if its threads are.
-use Rattle.std.proofs.Common.{◌≡◌, ℕ, zero, suc, Bool, true, List, [], ◌∷◌, length, Option, Some, None, refl, sym, ap, ◌∙◌, arith}
+use Rattle.std.proofs.Common.{◌≡◌, ℕ, zero, suc, Bool, true, List, [], ◌∷◌, length, Option, Some, None, refl, sym, ap}
+use Rattle.std.proofs.Common.{◌∙◌, arith}
 use Rattle.std.proofs.lemmas.Bool.{and_parts, and_from, eqb-true, eq-eqb}
 use Rattle.std.specs.List.{slice_get, list_all}
 use Rattle.recorder_core.specs.Setting.{Setting}
@@ -12,7 +13,8 @@ use Rattle.recorder_core.proofs.Counts.{Counted, counted}
 use Rattle.recorder_core.proofs.Threads.{seen_ring}
 use Rattle.recorder_core.proofs.Steps.{thread_is}
 
-all_at : {X : Type 0} (p : X → Bool) (xs : List X) → list_all p xs ≡ true → (k : ℕ) (x : X) → slice_get xs k ≡ Some x → p x ≡ true
+all_at : {X : Type 0} (p : X → Bool) (xs : List X) → list_all p xs ≡ true → (k : ℕ) (x : X) → slice_get xs k ≡ Some x
+    → p x ≡ true
 all_at p [] h k x is = cc
 all_at p (y ∷ xs) h zero x is = ap (λ (o : Option _). test p o) (sym is) ∙ (and_parts (p y) (list_all p xs) h).0
   where
@@ -21,7 +23,8 @@ all_at p (y ∷ xs) h zero x is = ap (λ (o : Option _). test p o) (sym is) ∙ 
     test q (Some z) = q z
 all_at p (y ∷ xs) h (suc k) x is = all_at p xs (and_parts (p y) (list_all p xs) h).1 k x is
 
-all_from : {X : Type 0} (p : X → Bool) (xs : List X) → ((k : ℕ) (x : X) → slice_get xs k ≡ Some x → p x ≡ true) → list_all p xs ≡ true
+all_from : {X : Type 0} (p : X → Bool) (xs : List X) → ((k : ℕ) (x : X) → slice_get xs k ≡ Some x → p x ≡ true)
+    → list_all p xs ≡ true
 all_from p [] h = refl
 all_from p (y ∷ xs) h = and_from (p y) (list_all p xs) (h 0 y refl) (all_from p xs (λ k x is. h (suc k) x is))
 
@@ -37,7 +40,8 @@ done_from setting old schedule left h = λ t within.
     (p.0, omega (arith, e, r, k.drained_below))
 
 -- a machine of a done schedule has threads that are done
-pub done_to : (setting : Setting) (old : MachineView) (schedule : List Attempt) → IsAfter setting old schedule → IsDone setting schedule
+pub done_to : (setting : Setting) (old : MachineView) (schedule : List Attempt) → IsAfter setting old schedule
+    → IsDone setting schedule
     → list_all is_thread_done old.threads ≡ true
 done_to setting old schedule left done =
     let steps = accepted setting schedule in

@@ -6,7 +6,8 @@ use Rattle.std.specs.Prelude.{Contains, IsPermutation, slice_get, flat_map}
 use Rattle.std.specs.List.{range_with_len}
 use Rattle.std.proofs.lemmas.Bool.{eqb-true, eq-eqb}
 use Rattle.std.proofs.lemmas.List.Elements.{All-contains, Contains-get_or}
-use Rattle.std.proofs.lemmas.List.Sorted.{length_permutation, IsNonDecreasingBy-from_sort, IsPermutation-sym, Contains-permutation}
+use Rattle.std.proofs.lemmas.List.Sorted.{length_permutation, IsNonDecreasingBy-from_sort, IsPermutation-sym}
+use Rattle.std.proofs.lemmas.List.Sorted.{Contains-permutation}
 use Rattle.std.proofs.lemmas.Option.{slice_get_within, slice_get_read, same_Some}
 use Rattle.event_records.specs.declared.event.Event.{Event}
 use Rattle.event_records.specs.declared.event.What.{What}
@@ -33,7 +34,8 @@ pub place_in : {X : Type 0} (xs : List X) (x : X) → Contains xs x → (k : ℕ
 place_in xs x among = (among.0, slice_get_read xs (length xs) among.0 x refl among.1 (sym among.2))
 
 -- if calls and returns take turns, calls are at even places
-pub call_at_even : (events : List Event) (k : ℕ) (e : Event) → TakesTurns events → slice_get events k ≡ Some e → is_call e.what ≡ true → (n : ℕ) × (k ≡ 2 * n)
+pub call_at_even : (events : List Event) (k : ℕ) (e : Event) → TakesTurns events → slice_get events k ≡ Some e
+    → is_call e.what ≡ true → (n : ℕ) × (k ≡ 2 * n)
 call_at_even [] k e turns at calls = cc
 call_at_even (call ∷ []) k e turns at calls = absurd turns
 call_at_even (call ∷ answer ∷ rest) zero e turns at calls = (zero, refl)
@@ -81,7 +83,8 @@ module _ (lists : List (List Event)) (merged : List Event) (fit : AreFit lists) 
   joined e among = Contains-permutation merged (flat_map (λ list. list) lists) e (IsPermutation-sym _ _ is.holds_each_once) among
 
   -- an event of the merged list is in the list of its thread
-  pub owned : (e : Event) → Contains merged e → (list : List Event) × (slice_get lists e.thread ≡ Some list) × Contains list e
+  pub owned : (e : Event) → Contains merged e
+      → (list : List Event) × (slice_get lists e.thread ≡ Some list) × Contains list e
   owned e among =
       let m = joined_contains lists e (joined e among) in
       let own = All-contains (λ (x : Event). x.thread ≡ m.0) m.1 e (fit.each m.0 m.1 m.2).own m.3 in
@@ -126,7 +129,8 @@ module _ (lists : List (List Event)) (merged : List Event) (fit : AreFit lists) 
 
   -- the place of an enqueue's call, and the name of its value
   named : (e : Event) (v : ℕ) → Contains merged e → called_value e.what ≡ Some v
-      → (list : List Event) × (n : ℕ) × (slice_get lists e.thread ≡ Some list) × (slice_get list (2 * n) ≡ Some e) × (v ≡ value_name e.thread n) × (n < 2 ^ 32)
+      → (list : List Event) × (n : ℕ) × (slice_get lists e.thread ≡ Some list) × (slice_get list (2 * n) ≡ Some e)
+      × (v ≡ value_name e.thread n) × (n < 2 ^ 32)
   named e v among called =
       let o = owned e among in
       let own = fit.each e.thread o.0 o.1 in
@@ -136,7 +140,8 @@ module _ (lists : List (List Event)) (merged : List Event) (fit : AreFit lists) 
       let at : slice_get o.0 (2 * even.0) ≡ Some e = subst (λ (k : ℕ). slice_get o.0 k ≡ Some e) even.1 p.1 in
       (o.0, even.0, o.1, at, own.names even.0 v e at c.0, omega (arith, slice_get_within o.0 (2 * even.0) e at, own.not_too_long))
 
-  distinct : (a b : Event) (v w : ℕ) → Contains merged a → Contains merged b → a.ticket < b.ticket → called_value a.what ≡ Some v
+  distinct : (a b : Event) (v w : ℕ) → Contains merged a → Contains merged b → a.ticket < b.ticket
+      → called_value a.what ≡ Some v
       → called_value b.what ≡ Some w → v ≢ w
   distinct a b v w in_a in_b less call_a call_b same =
       let x = named a v in_a call_a in
@@ -176,7 +181,8 @@ module _ (lists : List (List Event)) (merged : List Event) (fit : AreFit lists) 
   }
 
 -- the merged list of lists that fit has few events
-pub merged_is_few : (lists : List (List Event)) (merged : List Event) → AreFit lists → IsMerged lists merged → length merged ≤ MAX_EVENTS
+pub merged_is_few : (lists : List (List Event)) (merged : List Event) → AreFit lists → IsMerged lists merged
+    → length merged ≤ MAX_EVENTS
 merged_is_few lists merged fit is = omega (arith, fit.not_too_long, length_permutation _ _ is.holds_each_once)
 
 -- recorded lists fit together

@@ -1,5 +1,6 @@
 -- Steps that are accepted one after another.
-use Rattle.std.proofs.Common.{◌≡◌, ℕ, ◌+◌, ◌<◌, ◌≤◌, false, ◌||◌, List, ◌∷◌, ◌++◌, map, None, refl, ◌∙◌, ap, subst, arith, leb}
+use Rattle.std.proofs.Common.{◌≡◌, ℕ, ◌+◌, ◌<◌, ◌≤◌, false, ◌||◌, List, ◌∷◌, ◌++◌, map, None, refl, ◌∙◌, ap, subst}
+use Rattle.std.proofs.Common.{arith, leb}
 use Rattle.std.specs.Prelude.{All}
 use Rattle.std.proofs.lemmas.Bool.{ne_eqb, lt-leb, le-ltb}
 use Rattle.event_records.specs.declared.event.Event.{Event}
@@ -11,7 +12,8 @@ use Rattle.recorder_core.specs.declared.step.Step.TheVariants.{Push, Say, Ret, D
 use Rattle.event_records.specs.declared.kind.Answer.{Answer}
 use Rattle.recorder_core.specs.Inner.Asked.{ask_of}
 use Rattle.recorder_core.specs.Setting.{Setting}
-use Rattle.recorder_core.specs.Schedule.{Attempt, refusal, accepted, asks, all_asks, answers, returns, pushes, drained, events, request, is_closed, is_wrong}
+use Rattle.recorder_core.specs.Schedule.{Attempt, refusal, accepted, asks, all_asks, answers, returns, pushes, drained}
+use Rattle.recorder_core.specs.Schedule.{events, request, is_closed, is_wrong}
 use Rattle.recorder_core.proofs.Runs.{same_number, MayAsk, MayPush, MayAnswer, MayReturn, MayClose}
 use Rattle.recorder_core.proofs.Closing.{accepted_is}
 use Rattle.recorder_core.proofs.Events.{CountedAndRecorded, recorded}
@@ -41,7 +43,8 @@ push_granted setting u before m = rw (lt-leb _ _ m.known, m.open_still, lt-leb _
 
 -- an answer that may come is accepted
 pub say_granted : (setting : Setting) (u : ℕ) (before : List Step) (answer : Answer) → MayAnswer setting u before
-    → is_wrong answer (request u before) ≡ false → refusal setting before (record { step = Say u answer; starved = false }) ≡ None
+    → is_wrong answer (request u before) ≡ false
+    → refusal setting before (record { step = Say u answer; starved = false }) ≡ None
 say_granted setting u before answer m right =
     rw (lt-leb _ _ m.known, m.open_still, lt-leb _ _ m.one_pending, le-ltb _ _ m.no_answer, right) refl
 
@@ -79,7 +82,8 @@ one_granted setting step before all none =
     accepted_is setting (map granted_attempt before) (granted_attempt step) none' ∙ ap (λ (l : List Step). step ∷ l) all
 
 -- the counts and events of a thread after accepted steps
-pub granted_recorded : (setting : Setting) (t : ℕ) (steps : List Step) → AllGranted setting steps → CountedAndRecorded setting t steps
+pub granted_recorded : (setting : Setting) (t : ℕ) (steps : List Step) → AllGranted setting steps
+    → CountedAndRecorded setting t steps
 granted_recorded setting t steps all = subst (CountedAndRecorded setting t) all (recorded setting t (map granted_attempt steps))
 
 -- the counts of all threads after accepted steps
@@ -100,8 +104,10 @@ pub record IsOnTurn (setting : Setting) (n t held : ℕ) (list : List Event) (st
   pub later : All (λ e. n ≤ e.ticket) rest
 
 -- a thread stays on turn through steps that don't change its counts and events
-on_turn_still : (setting : Setting) (n t held : ℕ) (list : List Event) (before after : List Step) → is_closed t after ≡ is_closed t before
-    → pushes t after ≡ pushes t before → asks t after ≡ asks t before → returns t after ≡ returns t before → drained t after ≡ drained t before
+on_turn_still : (setting : Setting) (n t held : ℕ) (list : List Event) (before after : List Step)
+    → is_closed t after ≡ is_closed t before
+    → pushes t after ≡ pushes t before → asks t after ≡ asks t before → returns t after ≡ returns t before
+    → drained t after ≡ drained t before
     → answers t after ≡ answers t before → events setting t after ≡ events setting t before
     → IsOnTurn setting n t held list before → IsOnTurn setting n t held list after
 on_turn_still setting n t held list before after closed pushed asked returned drains answered happened k = record {
@@ -119,7 +125,8 @@ abbrev pub collect_one : ℕ → List Step → List Step
 collect_one u before = Drain u 1 ∷ Push u ∷ before
 
 -- one event of the thread on turn is collected
-pub collected_own : (setting : Setting) (n u : ℕ) (list : List Event) (before : List Step) → IsOnTurn setting n u 1 list before
+pub collected_own : (setting : Setting) (n u : ℕ) (list : List Event) (before : List Step)
+    → IsOnTurn setting n u 1 list before
     → IsOnTurn setting n u 0 list (collect_one u before)
 collected_own setting n u list before h = record {
   still_open = h.still_open;
@@ -132,13 +139,15 @@ collected_own setting n u list before h = record {
 }
 
 -- nothing of another thread changes
-pub collected_other : (setting : Setting) (n t u : ℕ) (list : List Event) (before : List Step) → (u ≡ t → ⊥) → IsOnTurn setting n t 0 list before
+pub collected_other : (setting : Setting) (n t u : ℕ) (list : List Event) (before : List Step) → (u ≡ t → ⊥)
+    → IsOnTurn setting n t 0 list before
     → IsOnTurn setting n t 0 list (collect_one u before)
 collected_other setting n t u list before other k =
     on_turn_still _ _ _ _ _ before _ refl (rw (ne_eqb u t other) refl) refl refl (rw (ne_eqb u t other) refl) refl refl k
 
 -- the push and the drain are accepted
-pub collected_granted : (setting : Setting) (n u : ℕ) (list : List Event) (before : List Step) → u < setting.threads → 1 ≤ setting.ring
+pub collected_granted : (setting : Setting) (n u : ℕ) (list : List Event) (before : List Step) → u < setting.threads
+    → 1 ≤ setting.ring
     → IsOnTurn setting n u 1 list before → AllGranted setting before → AllGranted setting (collect_one u before)
 collected_granted setting n u list before known room h all =
     let push = push_granted setting u before (record {
@@ -161,7 +170,8 @@ ask_other setting n t u list before Deq other k =
     on_turn_still _ _ _ _ _ before _ refl refl (rw (ne_eqb u t other) refl) refl refl refl (rw (ne_eqb u t other) refl) k
 
 -- an answer of another thread changes nothing
-pub answer_other : (setting : Setting) (n t u : ℕ) (list : List Event) (before : List Step) (answer : Answer) → (u ≡ t → ⊥)
+pub answer_other : (setting : Setting) (n t u : ℕ) (list : List Event) (before : List Step) (answer : Answer)
+    → (u ≡ t → ⊥)
     → IsOnTurn setting n t 0 list before → IsOnTurn setting n t 0 list (Ret u ∷ Say u answer ∷ before)
 answer_other setting n t u list before answer other k =
     on_turn_still _ _ _ _ _ before _ refl refl refl (rw (ne_eqb u t other) refl) refl (rw (ne_eqb u t other) refl) (rw (ne_eqb u t other) refl) k

@@ -22,12 +22,15 @@ use Rattle.event_records.specs.declared.kind.Answer.TheVariants.{Empty}
 use Rattle.recorder_core.specs.declared.pending.Request.{Request}
 use Rattle.recorder_core.specs.Inner.Asked.{call_of}
 use Rattle.recorder_core.specs.Setting.{Setting}
-use Rattle.recorder_core.specs.Schedule.{Attempt, refusal, accepted, answers, returns, tickets, request, answered, effect_answer, events, is_wrong}
+use Rattle.recorder_core.specs.Schedule.{Attempt, refusal, accepted, answers, returns, tickets, request, answered}
+use Rattle.recorder_core.specs.Schedule.{effect_answer, events, is_wrong}
 use Rattle.event_records.specs.Question.{return_what}
 use Rattle.recorder_core.specs.Schedule.{queue, queue_answer, with_last}
 use Rattle.recorder_core.specs.Replay.{is_say, effected, effect_kinds, kind_told}
-use Rattle.recorder_core.proofs.Runs.{same_number, after_each, MayAsk, may_ask, MayAnswer, may_effect, MayReturn, may_return}
-use Rattle.recorder_core.proofs.Events.{CountedAndRecorded, recorded, recorded_goes_on, told_last, asked_last, of_right_answers, queue_is_right}
+use Rattle.recorder_core.proofs.Runs.{same_number, after_each, MayAsk, may_ask, MayAnswer, may_effect, MayReturn}
+use Rattle.recorder_core.proofs.Runs.{may_return}
+use Rattle.recorder_core.proofs.Events.{CountedAndRecorded, recorded, recorded_goes_on, told_last, asked_last}
+use Rattle.recorder_core.proofs.Events.{of_right_answers, queue_is_right}
 use Rattle.recorder_core.proofs.Starting.{slice_get_front}
 use Rattle.recorder_core.proofs.Threads.{slice_get_at}
 use Rattle.history_merge.proofs.Lists.{with_one_more}
@@ -64,19 +67,24 @@ without_says steps = list_all (λ step. not (is_say step)) steps
 
 -- the relation of an effect to the events of its thread, after this many tickets, answers and returns, with this last
 -- answer
-pub record IsTaken (next n r : ℕ) (told : Option Answer) (list : List Event) (number time : ℕ) (kind : OpKind) : Type 0 where
+pub record IsTaken (next n r : ℕ) (told : Option Answer) (list : List Event) (number time : ℕ)
+    (kind : OpKind) : Type 0 where
   pub in_time : time ≤ next
   pub was_answered : number < n
   pub call : Event
   pub called : slice_get list (2 * number) ≡ Some call
   pub called_before : call.ticket < time
-  pub returned : (ret : Event) → slice_get list (2 * number + 1) ≡ Some ret → (time ≤ ret.ticket) × (kind_of call.what ret.what ≡ Some kind)
+  pub returned : (ret : Event) → slice_get list (2 * number + 1) ≡ Some ret
+      → (time ≤ ret.ticket) × (kind_of call.what ret.what ≡ Some kind)
   pub waiting : r ≤ number → (a : Answer) × (told ≡ Some a) × (kind_of call.what (return_what a) ≡ Some kind)
 
-module _ (next n r : ℕ) (told : Option Answer) (list : List Event) (number time : ℕ) (kind : OpKind) (k : IsTaken next n r told list number time kind) where
+module _ (next n r : ℕ) (told : Option Answer) (list : List Event) (number time : ℕ) (kind : OpKind)
+    (k : IsTaken next n r told list number time kind) where
   -- the relation after more steps, by what is known of the call and the return then
-  taken_then : (next' n' r' : ℕ) (told' : Option Answer) (list' : List Event) → next ≤ next' → n ≤ n' → slice_get list' (2 * number) ≡ Some k.call
-      → ((ret : Event) → slice_get list' (2 * number + 1) ≡ Some ret → (time ≤ ret.ticket) × (kind_of k.call.what ret.what ≡ Some kind))
+  taken_then : (next' n' r' : ℕ) (told' : Option Answer) (list' : List Event) → next ≤ next' → n ≤ n'
+      → slice_get list' (2 * number) ≡ Some k.call
+      → ((ret : Event) → slice_get list' (2 * number + 1) ≡ Some ret
+      → (time ≤ ret.ticket) × (kind_of k.call.what ret.what ≡ Some kind))
       → (r' ≤ number → (a : Answer) × (told' ≡ Some a) × (kind_of k.call.what (return_what a) ≡ Some kind))
       → IsTaken next' n' r' told' list' number time kind
   taken_then next' n' r' told' list' more answered called returned waiting = record {
@@ -114,7 +122,8 @@ module _ (next n r : ℕ) (told : Option Answer) (list : List Event) (number tim
       (still_returned e (λ last. absurd (omega (arith, last, long)))) k.waiting
 
   -- a return of its thread
-  taken_returned : (e : Event) (a : Answer) → length list ≡ suc (r + r) → n ≤ suc r → told ≡ Some a → e.ticket ≡ next → e.what ≡ return_what a
+  taken_returned : (e : Event) (a : Answer) → length list ≡ suc (r + r) → n ≤ suc r → told ≡ Some a → e.ticket ≡ next
+      → e.what ≡ return_what a
       → IsTaken (suc next) n (suc r) told (list ++ e ∷ []) number time kind
   taken_returned e a long few is ticket what =
       taken_then (suc next) n (suc r) told (list ++ e ∷ []) (omega arith) (omega arith) (still_called e) (still_returned e (λ last.
@@ -135,7 +144,8 @@ told_kind : (asked : Request) (answer : Answer) → is_wrong answer (Some asked)
 told_kind =
     of_right_answers (λ asked answer. kind_of (call_of asked) (return_what answer) ≡ Some (kind_told asked answer)) (λ v. refl) (λ v. refl) (λ w. refl) refl
 
-taken_now : (setting : Setting) (u : ℕ) (before : List Step) → CountedAndRecorded setting u before → MayAnswer setting u before →
+taken_now : (setting : Setting) (u : ℕ) (before : List Step) → CountedAndRecorded setting u before
+    → MayAnswer setting u before →
     IsTaken (tickets before) (suc (answers u before)) (returns u before) (Some (effect_answer setting u before)) (events setting u before)
     (answers u before) (tickets before) (kind_now setting u before)
 taken_now setting u before k m =
@@ -176,9 +186,12 @@ IsTakenAt setting steps x = (x.thread < setting.threads) × IsTaken (tickets ste
     (answered setting x.thread steps) (events setting x.thread steps) x.number x.time x.kind
 
 -- a taken effect stays related after an ask of either kind
-taken_asking : (setting : Setting) (u : ℕ) (before : List Step) (x : TakenEffect) (what : What) → ((t : ℕ) → CountedAndRecorded setting t before)
+taken_asking : (setting : Setting) (u : ℕ) (before : List Step) (x : TakenEffect) (what : What)
+    → ((t : ℕ) → CountedAndRecorded setting t before)
     → MayAsk setting u before → IsTakenAt setting before x
-    → (x.thread < setting.threads) × IsTaken (suc (tickets before)) (answers x.thread before) (returns x.thread before) (answered setting x.thread before)
+    → (x.thread < setting.threads)
+    × IsTaken (suc (tickets before)) (answers x.thread before) (returns x.thread before)
+    (answered setting x.thread before)
     (with_last (events setting x.thread before) (cond (eqb u x.thread) (Some (record { ticket = tickets before; thread = x.thread; what = what })) None))
     x.number x.time x.kind
 taken_asking setting u before x what all may k = elim (cases_eq u x.thread) [
@@ -191,8 +204,10 @@ taken_asking setting u before x what all may k = elim (cases_eq u x.thread) [
 ]
 
 -- a taken effect stays related after each honest step
-taken_on : (setting : Setting) (step : Step) (starved : Bool) (before : List Step) (x : TakenEffect) → ((t : ℕ) → CountedAndRecorded setting t before)
-    → without_says (step ∷ before) ≡ true → refusal setting before (record { step = step; starved = starved }) ≡ None → IsTakenAt setting before x
+taken_on : (setting : Setting) (step : Step) (starved : Bool) (before : List Step) (x : TakenEffect)
+    → ((t : ℕ) → CountedAndRecorded setting t before)
+    → without_says (step ∷ before) ≡ true → refusal setting before (record { step = step; starved = starved }) ≡ None
+    → IsTakenAt setting before x
     → IsTakenAt setting (step ∷ before) x
 taken_on setting (AskEnq u) starved before x all honest none k = taken_asking setting u before x _ all (may_ask setting before u starved none) k
 taken_on setting (AskDeq u) starved before x all honest none k = taken_asking setting u before x _ all (may_ask setting before u starved none) k
@@ -228,12 +243,15 @@ pub record AreTaken (setting : Setting) (steps : List Step) : Type 0 where
   pub kinds_are : map (λ x. x.kind) (taken setting steps) ≡ effect_kinds setting steps
 
 -- the steps before an honest one are honest
-pub later_honest : (step : Step) (before : List Step) → without_says (step ∷ before) ≡ true → without_says before ≡ true
+pub later_honest : (step : Step) (before : List Step) → without_says (step ∷ before) ≡ true
+    → without_says before ≡ true
 later_honest (Say u answer) before honest = cc
 later_honest _ before honest = honest
 
-one_effect : (setting : Setting) (u : ℕ) (starved : Bool) (before : List Step) → ((t : ℕ) → CountedAndRecorded setting t before)
-    → without_says (Effect u ∷ before) ≡ true → refusal setting before (record { step = Effect u; starved = starved }) ≡ None
+one_effect : (setting : Setting) (u : ℕ) (starved : Bool) (before : List Step)
+    → ((t : ℕ) → CountedAndRecorded setting t before)
+    → without_says (Effect u ∷ before) ≡ true
+    → refusal setting before (record { step = Effect u; starved = starved }) ≡ None
     → AreTaken setting before → AreTaken setting (Effect u ∷ before)
 one_effect setting u starved before all honest none k =
     let m = may_effect setting before u starved none in
@@ -255,15 +273,19 @@ one_effect setting u starved before all honest none k =
 abbrev HonestlyTaken : Setting → List Step → Type 0
 HonestlyTaken setting steps = ((t : ℕ) → CountedAndRecorded setting t steps) × (without_says steps ≡ true → AreTaken setting steps)
 
-same_effects : (setting : Setting) (step : Step) (starved : Bool) (before : List Step) → ((t : ℕ) → CountedAndRecorded setting t before)
-    → without_says (step ∷ before) ≡ true → refusal setting before (record { step = step; starved = starved }) ≡ None → AreTaken setting before →
+same_effects : (setting : Setting) (step : Step) (starved : Bool) (before : List Step)
+    → ((t : ℕ) → CountedAndRecorded setting t before)
+    → without_says (step ∷ before) ≡ true → refusal setting before (record { step = step; starved = starved }) ≡ None
+    → AreTaken setting before →
     All (IsTakenAt setting (step ∷ before)) (taken setting before)
 same_effects setting step starved before all honest none k =
     All-weaker (IsTakenAt setting before) (IsTakenAt setting (step ∷ before)) (λ x. taken_on setting step starved before x all honest none)
     (taken setting before) k.each
 
-effects_on : (setting : Setting) (step : Step) (starved : Bool) (before : List Step) → ((t : ℕ) → CountedAndRecorded setting t before)
-    → without_says (step ∷ before) ≡ true → refusal setting before (record { step = step; starved = starved }) ≡ None → AreTaken setting before
+effects_on : (setting : Setting) (step : Step) (starved : Bool) (before : List Step)
+    → ((t : ℕ) → CountedAndRecorded setting t before)
+    → without_says (step ∷ before) ≡ true → refusal setting before (record { step = step; starved = starved }) ≡ None
+    → AreTaken setting before
     → AreTaken setting (step ∷ before)
 effects_on setting (Effect u) starved before all honest none k = one_effect setting u starved before all honest none k
 effects_on setting (AskEnq u) starved before all honest none k =
@@ -298,7 +320,8 @@ honestly_taken setting schedule = (after_each setting (HonestlyTaken setting) (
     )) schedule).1
 
 -- the operations of the effects
-pub effected_are : (setting : Setting) (steps : List Step) → map (λ (x : TakenEffect). (x.thread, x.number)) (taken setting steps) ≡ effected steps
+pub effected_are : (setting : Setting) (steps : List Step)
+    → map (λ (x : TakenEffect). (x.thread, x.number)) (taken setting steps) ≡ effected steps
 effected_are setting [] = refl
 effected_are setting (Effect u ∷ before) = map_push (λ (x : TakenEffect). (x.thread, x.number)) (taken setting before) _
     ∙ ap (λ (l : List (ℕ × ℕ)). l ++ (u, answers u before) ∷ []) (effected_are setting before)

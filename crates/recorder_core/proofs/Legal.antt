@@ -39,7 +39,8 @@ use Rattle.history_merge.proofs.Lists.{contains_head, one_deeper}
 
 -- ---- the effects by thread
 
-filter_map-map : {X Y Z : Type 0} (g : Y → Option Z) (f : X → Y) (xs : List X) → filter_map g (map f xs) ≡ filter_map (λ x. g (f x)) xs
+filter_map-map : {X Y Z : Type 0} (g : Y → Option Z) (f : X → Y) (xs : List X)
+    → filter_map g (map f xs) ≡ filter_map (λ x. g (f x)) xs
 filter_map-map g f [] = refl
 filter_map-map g f (x ∷ xs) = ap (cons_option (g (f x))) (filter_map-map g f xs)
 
@@ -56,7 +57,8 @@ own_more g t k =
 abbrev ByThread : Setting → (ℕ × ℕ → Option Operation) → List Step → Type 0
 ByThread setting g steps = without_says steps ≡ true → IsPermutation (filter_map g (effected steps)) (blocks (λ t. own g t (answers t steps)) setting.threads)
 
-by_thread_on : (setting : Setting) (g : ℕ × ℕ → Option Operation) (step : Step) (starved : Bool) (before : List Step) → ByThread setting g before
+by_thread_on : (setting : Setting) (g : ℕ × ℕ → Option Operation) (step : Step) (starved : Bool) (before : List Step)
+    → ByThread setting g before
     → refusal setting before (record { step = step; starved = starved }) ≡ None → ByThread setting g (step ∷ before)
 by_thread_on setting g (Effect u) starved before k none honest =
     let more = filter_map g ((u, answers u before) ∷ []) in
@@ -74,7 +76,8 @@ by_thread_on setting g (Ret u) starved before k none honest = k honest
 by_thread_on setting g (Drain u n) starved before k none honest = k honest
 by_thread_on setting g (Close u) starved before k none honest = k honest
 
-effects_by_thread : (setting : Setting) (g : ℕ × ℕ → Option Operation) (schedule : List Attempt) → ByThread setting g (accepted setting schedule)
+effects_by_thread : (setting : Setting) (g : ℕ × ℕ → Option Operation) (schedule : List Attempt)
+    → ByThread setting g (accepted setting schedule)
 effects_by_thread setting g schedule = after_each setting (ByThread setting g) (λ honest. same_permutation _ _ (no_blocks setting.threads))
     (λ before attempt k none. by_thread_on setting g attempt.step attempt.starved before k none) schedule
 
@@ -91,7 +94,8 @@ kinds_kept h (x ∷ xs) each =
     ∙ ap (λ (l : List OpKind). first.0.kind ∷ l) more ∙ ap (λ (k : OpKind). k ∷ map (λ (y : TakenEffect). y.kind) xs) first.2
 
 -- the operation of a call and a return at their places
-made_of : (list : List Event) (n : ℕ) (call ret : Event) (kind : OpKind) → slice_get list (2 * n) ≡ Some call → slice_get list (2 * n + 1) ≡ Some ret
+made_of : (list : List Event) (n : ℕ) (call ret : Event) (kind : OpKind) → slice_get list (2 * n) ≡ Some call
+    → slice_get list (2 * n + 1) ≡ Some ret
     → kind_of call.what ret.what ≡ Some kind →
     operation_in list n ≡ Some (record { call = call.ticket; ret = ret.ticket; thread = call.thread; kind = kind })
 made_of list n call ret kind at_call at_ret is =
@@ -121,7 +125,8 @@ module _ (setting : Setting) (schedule : List Attempt) (merged : List Event) (fe
   abbrev did : TakenEffect → Option Operation
   did x = operation_at setting steps (x.thread, x.number)
 
-  all_answered : (t : ℕ) → t < setting.threads → (answers t steps ≡ asks t steps) × (length (events setting t steps) ≡ 2 * asks t steps)
+  all_answered : (t : ℕ) → t < setting.threads
+      → (answers t steps ≡ asks t steps) × (length (events setting t steps) ≡ 2 * asks t steps)
   all_answered t within =
       let c = (recorded setting t schedule).0 in
       let same = all_returned setting schedule few done t within in
@@ -171,7 +176,8 @@ module _ (setting : Setting) (schedule : List Attempt) (merged : List Event) (fe
   accepted_in_turn = rw (kinds, effects_accepted setting steps) refl
 
   -- the operations of each thread are those of its effects
-  thread_operations : (t : ℕ) → t < setting.threads → operations_of (projection t merged) ≡ own (operation_at setting steps) t (answers t steps)
+  thread_operations : (t : ℕ) → t < setting.threads
+      → operations_of (projection t merged) ≡ own (operation_at setting steps) t (answers t steps)
   thread_operations t within =
       let at = at_number (λ v. collected_in setting schedule v) setting.threads t within
       ∙ ap (λ (l : List Event). Some l) (all_collected setting schedule done t within) in

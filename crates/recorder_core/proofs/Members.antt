@@ -4,7 +4,8 @@ use Rattle.std.proofs.Common.{◌≡◌, ℕ, zero, suc, ◌+◌, ◌<◌, List,
 use Rattle.std.proofs.Common.{◌∙◌, ap, subst, inl, inr, arith, ◌≤◌}
 use Rattle.std.specs.Prelude.{AllPairs, Contains, filter_map, slice_get, flat_map}
 use Rattle.std.specs.List.{range_with_len, cons_option}
-use Rattle.std.proofs.lemmas.List.Elements.{Contains-append_left, Contains-append_right, Contains-append_cases, Contains-get_or}
+use Rattle.std.proofs.lemmas.List.Elements.{Contains-append_left, Contains-append_right, Contains-append_cases}
+use Rattle.std.proofs.lemmas.List.Elements.{Contains-get_or}
 use Rattle.event_records.specs.declared.event.Event.{Event}
 use Rattle.event_records.specs.Turns.{TicketsRise}
 use Rattle.history_merge.proofs.Distinct.{contains_cons, not_in_none}
@@ -13,7 +14,8 @@ use Rattle.history_merge.proofs.Lists.{contains_head, one_deeper, kept, AllPairs
 -- ---- membership
 
 -- a member of one of several lists is one of all
-pub contains_joined : {X : Type 0} (lists : List (List X)) (t : ℕ) (list : List X) (x : X) → slice_get lists t ≡ Some list → Contains list x
+pub contains_joined : {X : Type 0} (lists : List (List X)) (t : ℕ) (list : List X) (x : X)
+    → slice_get lists t ≡ Some list → Contains list x
     → Contains (flat_map (λ l. l) lists) x
 contains_joined [] t list x at among = cc
 contains_joined (l ∷ lists) zero list x at among = let same : l ≡ list = cc in Contains-append_left l (flat_map (λ l. l) lists) x (rw same among)
@@ -31,7 +33,8 @@ joined_contains (l ∷ lists) x among = elim (Contains-append_cases l (flat_map 
 -- ---- pairs
 
 -- one more element in front
-pub pairs_cons : {X : Type 0} (R : X → X → Type 0) (x : X) (xs : List X) → ((y : X) → Contains xs y → R x y) → AllPairs R xs → AllPairs R (x ∷ xs)
+pub pairs_cons : {X : Type 0} (R : X → X → Type 0) (x : X) (xs : List X) → ((y : X) → Contains xs y → R x y)
+    → AllPairs R xs → AllPairs R (x ∷ xs)
 pairs_cons R x xs first more i zero d below within = absurd (omega arith)
 pairs_cons R x xs first more zero (suc j) d below within = first (get_or xs j d) (Contains-get_or xs j d (omega arith))
 pairs_cons R x xs first more (suc i) (suc j) d below within = more i j d (omega arith) (omega arith)
@@ -43,7 +46,8 @@ abbrev pub Below : Event → Event → Type 0
 Below e f = e.ticket < f.ticket
 
 -- lists with rising tickets and the same events are equal
-pub rising_unique : (xs ys : List Event) → TicketsRise xs → TicketsRise ys → ((e : Event) → Contains xs e → Contains ys e)
+pub rising_unique : (xs ys : List Event) → TicketsRise xs → TicketsRise ys
+    → ((e : Event) → Contains xs e → Contains ys e)
     → ((e : Event) → Contains ys e → Contains xs e) → xs ≡ ys
 rising_unique [] [] up up' there back = refl
 rising_unique [] (y ∷ ys) up up' there back = absurd (not_in_none y (back y (contains_head y ys)))
@@ -65,7 +69,8 @@ rising_unique (x ∷ xs) (y ∷ ys) up up' there back =
     ]
 
     one_on : (a b : Event) (more_a more_b : List Event) → TicketsRise (a ∷ more_a) → a ≡ b
-        → ((e : Event) → Contains (a ∷ more_a) e → Contains (b ∷ more_b) e) → (e : Event) → Contains more_a e → Contains more_b e
+        → ((e : Event) → Contains (a ∷ more_a) e → Contains (b ∷ more_b) e) → (e : Event) → Contains more_a e
+        → Contains more_b e
     one_on a b more_a more_b rise is over e among = elim (contains_cons b more_b e (over e (one_deeper a more_a e among))) [
       | inl first ↦
           let less = pairs_first Below a more_a e rise among in
@@ -91,7 +96,8 @@ nil_from_none (x ∷ xs) none = absurd (none x (contains_head x xs))
 
 -- a relation of all pairs of items holds, in another form, of what `filter_map` gives
 pub pairs_filter_map : {X Y : Type 0} (R : X → X → Type 0) (S : Y → Y → Type 0) (h : X → Option Y) (xs : List X)
-    → ((a b : X) (c d : Y) → Contains xs a → Contains xs b → R a b → h a ≡ Some c → h b ≡ Some d → S c d) → AllPairs R xs → AllPairs S (filter_map h xs)
+    → ((a b : X) (c d : Y) → Contains xs a → Contains xs b → R a b → h a ≡ Some c → h b ≡ Some d → S c d)
+    → AllPairs R xs → AllPairs S (filter_map h xs)
 pairs_filter_map R S h [] turn pairs = λ i j d below within. absurd (omega arith)
 pairs_filter_map {X} {Y} R S h (x ∷ xs) turn pairs =
     by_head (h x) refl (pairs_filter_map R S h xs (λ a b c d in_a in_b. turn a b c d (one_deeper x xs a in_a) (one_deeper x xs b in_b))

@@ -23,7 +23,8 @@ pub found_among : (xs : List ℕ) (v : ℕ) → is_among xs v ≡ true → Conta
 found_among [] v e = cc
 found_among (x ∷ xs) v e = by_head (nat_eq x v) refl (found_among xs v) e
   where
-    by_head : (b : Bool) → nat_eq x v ≡ b → (is_among xs v ≡ true → Contains xs v) → (b || is_among xs v) ≡ true → Contains (x ∷ xs) v
+    by_head : (b : Bool) → nat_eq x v ≡ b → (is_among xs v ≡ true → Contains xs v) → (b || is_among xs v) ≡ true
+        → Contains (x ∷ xs) v
     by_head true is later e = subst (λ (z : ℕ). Contains (x ∷ xs) z) (eqb-true x v is) (contains_head x xs)
     by_head false is later e = one_deeper x xs v (later e)
 
@@ -40,7 +41,8 @@ among_found (x ∷ xs) v among = elim (contains_cons x xs v among) [
     by_rest false e = e
 
 -- if a value is among those before it, the values aren't distinct
-pub stands_twice : (xs : List ℕ) (i d : ℕ) → i < length xs → is_among (take i xs) (get_or xs i d) ≡ true → AllPairs (λ v w. v ≢ w) xs → ⊥
+pub stands_twice : (xs : List ℕ) (i d : ℕ) → i < length xs → is_among (take i xs) (get_or xs i d) ≡ true
+    → AllPairs (λ v w. v ≢ w) xs → ⊥
 stands_twice xs i d within found apart =
     let v = get_or xs i d in
     let a = found_among (take i xs) v found in
@@ -48,7 +50,8 @@ stands_twice xs i d within found apart =
     apart a.0 i v earlier within (sym (get_or-take i xs a.0 v earlier) ∙ a.2 ∙ get_or_default xs i d v within)
 
 -- membership with one more value
-among_more : (xs : List ℕ) (i d v : ℕ) → i < length xs → is_among (take (i + 1) xs) v ≡ (is_among (take i xs) v || nat_eq (get_or xs i d) v)
+among_more : (xs : List ℕ) (i d v : ℕ) → i < length xs
+    → is_among (take (i + 1) xs) v ≡ (is_among (take i xs) v || nat_eq (get_or xs i d) v)
 among_more xs i d v within =
     ap (λ (n : ℕ). is_among (take n xs) v) (add-one i) ∙ ap (λ (l : List ℕ). is_among l v) (take-suc xs i d within)
     ∙ list_any-append (λ w. nat_eq w v) (take i xs) (get_or xs i d ∷ [])
@@ -67,7 +70,8 @@ noted xs i d v before now within was is =
     or_flipped true false = refl
 
 -- one more value, which isn't among those before it
-pub one_more_apart : (xs : List ℕ) (i d : ℕ) → i < length xs → is_among (take i xs) (get_or xs i d) ≡ false → AllPairs (λ v w. v ≢ w) (take i xs)
+pub one_more_apart : (xs : List ℕ) (i d : ℕ) → i < length xs → is_among (take i xs) (get_or xs i d) ≡ false
+    → AllPairs (λ v w. v ≢ w) (take i xs)
     → AllPairs (λ v w. v ≢ w) (take (i + 1) xs)
 one_more_apart xs i d within unseen apart =
     let v = get_or xs i d in

@@ -1,7 +1,9 @@
 -- The operations of a history, thread by thread.
-use Rattle.std.proofs.Common.{◌≡◌, ℕ, zero, suc, ◌+◌, ◌*◌, ◌<◌, Bool, true, false, cond, List, [], ◌∷◌, ◌++◌, length, Option, Some, None, refl, sym}
+use Rattle.std.proofs.Common.{◌≡◌, ℕ, zero, suc, ◌+◌, ◌*◌, ◌<◌, Bool, true, false, cond, List, [], ◌∷◌, ◌++◌, length}
+use Rattle.std.proofs.Common.{Option, Some, None, refl, sym}
 use Rattle.std.proofs.Common.{◌∙◌, ap, arith}
-use Rattle.std.specs.Prelude.{All, Contains, filter, filter_map, find, slice_get, IsPermutation, option_to_list, nat_eq}
+use Rattle.std.specs.Prelude.{All, Contains, filter, filter_map, find, slice_get, IsPermutation, option_to_list}
+use Rattle.std.specs.Prelude.{nat_eq}
 use Rattle.std.specs.List.{range_with_len, cons_option}
 use Rattle.std.proofs.lemmas.Bool.{ne_eqb, eq-eqb}
 use Rattle.std.proofs.lemmas.List.Elements.{All-head, All-tail}
@@ -23,7 +25,8 @@ find_filter : {X : Type 0} (p : X → Bool) (xs : List X) → find p (filter p x
 find_filter p [] = refl
 find_filter {X} p (x ∷ xs) = by_head (p x) refl (find_filter p xs)
   where
-    by_head : (b : Bool) → p x ≡ b → find p (filter p xs) ≡ find p xs → find p (cond b (x ∷ filter p xs) (filter p xs)) ≡ cond b (Some x) (find p xs)
+    by_head : (b : Bool) → p x ≡ b → find p (filter p xs) ≡ find p xs
+        → find p (cond b (x ∷ filter p xs) (filter p xs)) ≡ cond b (Some x) (find p xs)
     by_head true is more = rw is refl
     by_head false is more = more
 
@@ -53,7 +56,8 @@ operation_between events i j = elim (slice_get events i) [
   | Some call ↦ operation_of call (slice_get events j)
 ]
 
-later_number : (call answer : Event) (rest : List Event) (n : ℕ) → operation_in (call ∷ answer ∷ rest) (suc n) ≡ operation_in rest n
+later_number : (call answer : Event) (rest : List Event) (n : ℕ)
+    → operation_in (call ∷ answer ∷ rest) (suc n) ≡ operation_in rest n
 later_number call answer rest n =
     let all = call ∷ answer ∷ rest in
     let e : 2 * suc n ≡ suc (suc (2 * n)) = omega arith in
@@ -61,14 +65,16 @@ later_number call answer rest n =
     ap (λ (i : ℕ). operation_between all i (2 * suc n + 1)) e ∙ ap (operation_between all (suc (suc (2 * n)))) f
 
 later_numbers : (call answer : Event) (rest : List Event) (a h : ℕ)
-    → filter_map (operation_in (call ∷ answer ∷ rest)) (range_with_len (suc a) h) ≡ filter_map (operation_in rest) (range_with_len a h)
+    → filter_map (operation_in (call ∷ answer ∷ rest)) (range_with_len (suc a) h)
+    ≡ filter_map (operation_in rest) (range_with_len a h)
 later_numbers call answer rest a zero = refl
 later_numbers call answer rest a (suc h) =
     let e : suc a + 1 ≡ suc (a + 1) = omega arith in
     rw (e, later_number call answer rest a) (ap (cons_option (operation_in rest a)) (later_numbers call answer rest (a + 1) h))
 
 -- the operations of one thread are its calls with their answers
-pub operations_in_turn : (t : ℕ) (events : List Event) (h : ℕ) → TakesTurns events → All (λ e. e.thread ≡ t) events → length events ≡ 2 * h
+pub operations_in_turn : (t : ℕ) (events : List Event) (h : ℕ) → TakesTurns events → All (λ e. e.thread ≡ t) events
+    → length events ≡ 2 * h
     → operations_of events ≡ filter_map (operation_in events) (range_with_len 0 h)
 operations_in_turn t [] zero turns own long = refl
 operations_in_turn t [] (suc h) turns own long = absurd (omega arith)

@@ -50,7 +50,8 @@ module _ (lists : List (List Event)) (fit : AreFit lists) (ring : ℕ) (initial 
   whole : IsReplayed lists fit ring initial room (length all)
   whole = replayed lists fit ring initial room (length all) (omega arith)
 
-  low : (t : ℕ) (list : List Event) (e : Event) → slice_get lists t ≡ Some list → Contains list e → e.ticket < length all
+  low : (t : ℕ) (list : List Event) (e : Event) → slice_get lists t ≡ Some list → Contains list e
+      → e.ticket < length all
   low t list e at among =
       omega (
         arith,
@@ -132,7 +133,8 @@ module _ (lists : List (List Event)) (fit : AreFit lists) (ring : ℕ) (initial 
   steps_back [] = refl
   steps_back (step ∷ steps) = ap (λ (l : List Step). step ∷ l) (steps_back steps)
 
-  silent_attempts : (steps : List Step) → list_all (λ (a : Attempt). not (is_effect a.step)) (map granted_attempt steps) ≡ without_effects steps
+  silent_attempts : (steps : List Step)
+      → list_all (λ (a : Attempt). not (is_effect a.step)) (map granted_attempt steps) ≡ without_effects steps
   silent_attempts [] = refl
   silent_attempts (step ∷ steps) = ap (λ (b : Bool). not (is_effect step) && b) (silent_attempts steps)
 

@@ -21,16 +21,20 @@ use Rattle.event_records.specs.declared.kind.Answer.{Answer}
 use Rattle.recorder_core.specs.Inner.Asked.{ask_of, asked_for, call_of}
 use Rattle.recorder_core.specs.Setting.{Setting}
 use Rattle.event_records.specs.Question.{return_what}
-use Rattle.recorder_core.specs.Schedule.{asks, answers, returns, pushes, drained, tickets, request, events, is_closed, is_wrong}
+use Rattle.recorder_core.specs.Schedule.{asks, answers, returns, pushes, drained, tickets, request, events, is_closed}
+use Rattle.recorder_core.specs.Schedule.{is_wrong}
 use Rattle.recorder_core.specs.Replay.{is_effect, setting_for}
 use Rattle.recorder_core.proofs.Runs.{same_number, MayAsk}
 use Rattle.recorder_core.proofs.Totals.{total, total_doubled_less}
 use Rattle.recorder_core.proofs.Members.{Below, contains_joined, joined_contains, in_range}
 use Rattle.recorder_core.proofs.Blocks.{once_same, joined_blocks, blocks}
 use Rattle.recorder_core.proofs.Fitting.{ticket_of, AreFit, once_joined}
-use Rattle.recorder_core.proofs.Granted.{AllGranted, one_granted, granted_recorded, granted_added, ask_granted, say_granted, return_granted, IsOnTurn}
-use Rattle.recorder_core.proofs.Granted.{collect_one, collected_own, collected_other, collected_granted, ask_other, answer_other}
-use Rattle.recorder_core.proofs.Turns.{turns_split, turns_from_call, turns_even, first_is_call, answer_in, pending_is_answered}
+use Rattle.recorder_core.proofs.Granted.{AllGranted, one_granted, granted_recorded, granted_added, ask_granted}
+use Rattle.recorder_core.proofs.Granted.{say_granted, return_granted, IsOnTurn}
+use Rattle.recorder_core.proofs.Granted.{collect_one, collected_own, collected_other, collected_granted, ask_other}
+use Rattle.recorder_core.proofs.Granted.{answer_other}
+use Rattle.recorder_core.proofs.Turns.{turns_split, turns_from_call, turns_even, first_is_call, answer_in}
+use Rattle.recorder_core.proofs.Turns.{pending_is_answered}
 use Rattle.history_merge.proofs.Distinct.{contains_cons, not_in_none}
 use Rattle.history_merge.proofs.Lists.{mapped_from, all_members, pairs_first, pairs_back}
 
@@ -46,14 +50,16 @@ pub record HasNext (setting : Setting) (n t : ℕ) (list : List Event) (steps : 
 
 -- in a list on turn that contains the event with this ticket, that event is the next
 next_is : (setting : Setting) (n t : ℕ) (list : List Event) (steps : List Step) (e : Event) → TicketsRise list
-    → All (λ x. x.ticket < n) (events setting t steps) → IsOnTurn setting n t 0 list steps → Contains list e → e.ticket ≡ n → HasNext setting n t list steps e
+    → All (λ x. x.ticket < n) (events setting t steps) → IsOnTurn setting n t 0 list steps → Contains list e
+    → e.ticket ≡ n → HasNext setting n t list steps e
 next_is setting n t list steps e rise below k among same =
     elim (Contains-append_cases (events setting t steps) k.rest e (subst (λ (l : List Event). Contains l e) k.list_is among)) [
       | inl earlier ↦ absurd (omega (arith, All-contains (λ (x : Event). x.ticket < n) (events setting t steps) e below earlier))
       | inr here ↦ first k.rest k.list_is k.later here
     ]
   where
-    first : (rest : List Event) → list ≡ events setting t steps ++ rest → All (λ x. n ≤ x.ticket) rest → Contains rest e → HasNext setting n t list steps e
+    first : (rest : List Event) → list ≡ events setting t steps ++ rest → All (λ x. n ≤ x.ticket) rest
+        → Contains rest e → HasNext setting n t list steps e
     first [] is later here = absurd (not_in_none e here)
     first (x ∷ rest) is later here =
         let up : TicketsRise (x ∷ rest) = pairs_back Below (events setting t steps) (x ∷ rest) (subst TicketsRise is rise) in
@@ -88,8 +94,10 @@ module _ (setting : Setting) (n u : ℕ) (list : List Event) (steps : List Step)
   abbrev asked_event : Kind → Event
   asked_event kind = record { ticket = tickets steps; thread = u; what = call_of (asked_for kind u (asks u steps)) }
 
-  asked_own : (kind : Kind) (after : List Step) → e.what ≡ call_of (asked_for kind u (asks u steps)) → is_closed u after ≡ is_closed u steps
-      → pushes u after ≡ pushes u steps → asks u after ≡ suc (asks u steps) → returns u after ≡ returns u steps → drained u after ≡ drained u steps
+  asked_own : (kind : Kind) (after : List Step) → e.what ≡ call_of (asked_for kind u (asks u steps))
+      → is_closed u after ≡ is_closed u steps
+      → pushes u after ≡ pushes u steps → asks u after ≡ suc (asks u steps) → returns u after ≡ returns u steps
+      → drained u after ≡ drained u steps
       → answers u after ≡ answers u steps → events setting u after ≡ events setting u steps ++ asked_event kind ∷ []
       → IsOnTurn setting (suc n) u 1 list after
   asked_own kind after what closed pushed asked returned drains answered happened = record {
@@ -102,11 +110,13 @@ module _ (setting : Setting) (n u : ℕ) (list : List Event) (steps : List Step)
     later = next.later;
   }
 
-  ask_own : (kind : Kind) → e.what ≡ call_of (asked_for kind u (asks u steps)) → IsOnTurn setting (suc n) u 1 list (ask_of kind u ∷ steps)
+  ask_own : (kind : Kind) → e.what ≡ call_of (asked_for kind u (asks u steps))
+      → IsOnTurn setting (suc n) u 1 list (ask_of kind u ∷ steps)
   ask_own Enq what = asked_own Enq _ what refl refl (rw (same_number u) refl) refl refl refl (rw (same_number u) refl)
   ask_own Deq what = asked_own Deq _ what refl refl (rw (same_number u) refl) refl refl refl (rw (same_number u) refl)
 
-  answer_own : (answer : Answer) → e.what ≡ return_what answer → IsOnTurn setting (suc n) u 1 list (Ret u ∷ Say u answer ∷ steps)
+  answer_own : (answer : Answer) → e.what ≡ return_what answer
+      → IsOnTurn setting (suc n) u 1 list (Ret u ∷ Say u answer ∷ steps)
   answer_own answer what = record {
     still_open = k.still_open;
     pushed = rw (same_number u) (omega (arith, k.pushed));
@@ -148,7 +158,8 @@ module _ (lists : List (List Event)) (fit : AreFit lists) (ring : ℕ) (initial 
   }
 
   -- the event with a ticket, in the list of its thread
-  found : (n : ℕ) → n < length all → (e : Event) × (list : List Event) × (slice_get lists e.thread ≡ Some list) × Contains list e × (e.ticket ≡ n)
+  found : (n : ℕ) → n < length all
+      → (e : Event) × (list : List Event) × (slice_get lists e.thread ≡ Some list) × Contains list e × (e.ticket ≡ n)
   found n below =
       let c = Contains-permutation (range_with_len 0 (length all)) (map ticket_of all) n (IsPermutation-sym _ _ fit.tickets)
       (in_range 0 (length all) n (omega arith) (omega arith)) in
@@ -158,8 +169,10 @@ module _ (lists : List (List Event)) (fit : AreFit lists) (ring : ℕ) (initial 
       (m.0, j.1, subst (λ (t : ℕ). slice_get lists t ≡ Some j.1) (sym own) j.2, j.3, m.2)
 
   -- a thread without the event with this ticket has later ones
-  other_later : (n t : ℕ) (list : List Event) (steps : List Step) (e : Event) (from : List Event) → slice_get lists t ≡ Some list
-      → slice_get lists e.thread ≡ Some from → Contains from e → e.ticket ≡ n → (e.thread ≡ t → ⊥) → IsOnTurn on n t 0 list steps
+  other_later : (n t : ℕ) (list : List Event) (steps : List Step) (e : Event) (from : List Event)
+      → slice_get lists t ≡ Some list
+      → slice_get lists e.thread ≡ Some from → Contains from e → e.ticket ≡ n → (e.thread ≡ t → ⊥)
+      → IsOnTurn on n t 0 list steps
       → IsOnTurn on (suc n) t 0 list steps
   other_later n t list steps e from at at_e among same other k =
       let l = all_members (λ x. suc n ≤ x.ticket) k.rest later in
@@ -203,7 +216,8 @@ module _ (lists : List (List Event)) (fit : AreFit lists) (ring : ℕ) (initial 
       let even = turns_even (list_of t) (fit.each t (list_of t) (at_place t within)).alternates.takes_turns in
       omega (arith, even.1, ap length k.list_is, length-append (events on t r.steps) k.rest, c.0.events_are, c.0.one_pending)
 
-  may_ask_next : (n u : ℕ) (r : IsReplayed n) (list : List Event) (e : Event) → slice_get lists u ≡ Some list → HasNext on n u list r.steps e
+  may_ask_next : (n u : ℕ) (r : IsReplayed n) (list : List Event) (e : Event) → slice_get lists u ≡ Some list
+      → HasNext on n u list r.steps e
       → asks u r.steps ≡ returns u r.steps → MayAsk on u r.steps
   may_ask_next n u r list e at next idle =
       let steps = r.steps in
@@ -227,7 +241,8 @@ module _ (lists : List (List Event)) (fit : AreFit lists) (ring : ℕ) (initial 
 
   -- ---- one more ticket
 
-  finish : (n u : ℕ) (steps : List Step) (list : List Event) → slice_get lists u ≡ Some list → AllGranted on steps → without_effects steps ≡ true
+  finish : (n u : ℕ) (steps : List Step) (list : List Event) → slice_get lists u ≡ Some list → AllGranted on steps
+      → without_effects steps ≡ true
       → tickets steps ≡ suc n → IsOnTurn on (suc n) u 1 list steps →
       ((t : ℕ) (l : List Event) → slice_get lists t ≡ Some l → (u ≡ t → ⊥) → IsOnTurn on (suc n) t 0 l steps) → IsReplayed (suc n)
   finish n u steps list at granted silent counted held others = record {
@@ -244,7 +259,8 @@ module _ (lists : List (List Event)) (fit : AreFit lists) (ring : ℕ) (initial 
     ];
   }
 
-  silent_ask : (kind : Kind) (u : ℕ) (steps : List Step) → without_effects steps ≡ true → without_effects (ask_of kind u ∷ steps) ≡ true
+  silent_ask : (kind : Kind) (u : ℕ) (steps : List Step) → without_effects steps ≡ true
+      → without_effects (ask_of kind u ∷ steps) ≡ true
   silent_ask Enq u steps silent = silent
   silent_ask Deq u steps silent = silent
 
@@ -252,7 +268,8 @@ module _ (lists : List (List Event)) (fit : AreFit lists) (ring : ℕ) (initial 
   tickets_ask Enq u steps = refl
   tickets_ask Deq u steps = refl
 
-  middle : (xs : List Event) (x : Event) (ys : List Event) (n : ℕ) → length xs ≡ n → slice_get (xs ++ x ∷ ys) n ≡ Some x
+  middle : (xs : List Event) (x : Event) (ys : List Event) (n : ℕ) → length xs ≡ n
+      → slice_get (xs ++ x ∷ ys) n ≡ Some x
   middle [] x ys zero long = refl
   middle [] x ys (suc n) long = absurd (omega arith)
   middle (z ∷ xs) x ys zero long = absurd (omega arith)
@@ -276,7 +293,8 @@ module _ (lists : List (List Event)) (fit : AreFit lists) (ring : ℕ) (initial 
     others : (t : ℕ) (l : List Event) → slice_get lists t ≡ Some l → (u ≡ t → ⊥) → IsOnTurn on (suc n) t 0 l r.steps
     others t l at' other = other_later n t l r.steps e list at' at among same other (r.each t l at')
 
-    by_ask : (kind : Kind) → asks u r.steps ≡ returns u r.steps → e.what ≡ call_of (asked_for kind u (asks u r.steps)) → IsReplayed (suc n)
+    by_ask : (kind : Kind) → asks u r.steps ≡ returns u r.steps → e.what ≡ call_of (asked_for kind u (asks u r.steps))
+        → IsReplayed (suc n)
     by_ask kind idle what = finish n u (ask_of kind u ∷ r.steps) list at
         (one_granted on (ask_of kind u) r.steps r.granted (ask_granted on u r.steps kind (may_ask_next n u r list e at next idle)))
         (silent_ask kind u r.steps r.silent)
@@ -284,7 +302,8 @@ module _ (lists : List (List Event)) (fit : AreFit lists) (ring : ℕ) (initial 
         (ask_own on n u list r.steps e on_turn next refl same r.counted kind what)
         (λ t l at' other. ask_other on (suc n) t u l r.steps kind other (others t l at' other))
 
-    by_answer : (answer : Answer) → returns u r.steps < asks u r.steps → is_wrong answer (request u r.steps) ≡ false → e.what ≡ return_what answer
+    by_answer : (answer : Answer) → returns u r.steps < asks u r.steps → is_wrong answer (request u r.steps) ≡ false
+        → e.what ≡ return_what answer
         → IsReplayed (suc n)
     by_answer answer busy right what =
         let within : u < length lists = slice_get_within lists u list at in

@@ -1,7 +1,9 @@
 -- The effect of each step on the state of a thread.
 use Prim.Native.Nat.compare
-use Rattle.std.proofs.Common.{◌≡◌, ℕ, zero, suc, ◌+◌, ◌<◌, ◌≤◌, min, Bool, true, false, not, cond, List, [], ◌∷◌, ◌++◌, length, take, drop, Option}
-use Rattle.std.proofs.Common.{None, Some, refl, sym, ap, ◌∙◌, inl, inr, arith, eqb, ltb, leb, is_some, length-take, length-drop}
+use Rattle.std.proofs.Common.{◌≡◌, ℕ, zero, suc, ◌+◌, ◌<◌, ◌≤◌, min, Bool, true, false, not, cond, List, [], ◌∷◌, ◌++◌}
+use Rattle.std.proofs.Common.{length, take, drop, Option}
+use Rattle.std.proofs.Common.{None, Some, refl, sym, ap, ◌∙◌, inl, inr, arith, eqb, ltb, leb, is_some, length-take}
+use Rattle.std.proofs.Common.{length-drop}
 use Rattle.std.proofs.lemmas.Bool.{ne_eqb, cases_eq, cases_lt, lt-ltb, le-ltb, le-leb, lt-leb, ltb-true}
 use Rattle.std.proofs.Math.Seq.{take-add}
 use Rattle.std.proofs.lemmas.List.{take-append-le, drop-append-le, drop-drop, take-take}
@@ -22,7 +24,8 @@ use Rattle.event_records.specs.Question.{return_what, value_name}
 use Rattle.event_records.specs.declared.kind.Kind.{Kind}
 use Rattle.event_records.specs.declared.kind.Kind.TheVariants.{Enq, Deq}
 use Rattle.recorder_core.specs.Inner.Asked.{ask_of, asked_for, call_of}
-use Rattle.recorder_core.specs.Schedule.{asks, answers, returns, pushes, drained, in_ring, tickets, events, with_last, request, answered}
+use Rattle.recorder_core.specs.Schedule.{asks, answers, returns, pushes, drained, in_ring, tickets, events, with_last}
+use Rattle.recorder_core.specs.Schedule.{request, answered}
 use Rattle.recorder_core.specs.Schedule.{effect_answer, thread_of}
 use Rattle.recorder_core.specs.After.{pending, thread_after}
 use Rattle.recorder_core.proofs.Runs.{same_number, MayAsk, MayPush, MayAnswer, MayReturn}
@@ -33,7 +36,8 @@ abbrev pub with_answer : Option Answer → Request → Pending
 with_answer a q = record { request = q; answer = a }
 
 -- threads that agree in all fields are equal
-pub same_view : (a b : ThreadView) → a.closed ≡ b.closed → a.asked ≡ b.asked → a.pending ≡ b.pending → a.held ≡ b.held → a.ring ≡ b.ring
+pub same_view : (a b : ThreadView) → a.closed ≡ b.closed → a.asked ≡ b.asked → a.pending ≡ b.pending → a.held ≡ b.held
+    → a.ring ≡ b.ring
     → a.collected ≡ b.collected → a ≡ b
 same_view a b p q r s t u =
     ap (λ (x : Bool). record a { closed = x }) p
@@ -61,7 +65,8 @@ take_next (x ∷ xs) (suc n) = ap (λ l. x ∷ l) (take_next xs n) ∙ joined x 
     joined y ys (Some z) = refl
 
 -- the rest of a list with one more element
-pub drop-with_last : {X : Type 0} (n : ℕ) (xs : List X) (o : Option X) → n ≤ length xs → drop n (with_last xs o) ≡ with_last (drop n xs) o
+pub drop-with_last : {X : Type 0} (n : ℕ) (xs : List X) (o : Option X) → n ≤ length xs
+    → drop n (with_last xs o) ≡ with_last (drop n xs) o
 drop-with_last n xs None h = refl
 drop-with_last n xs (Some x) h = drop-append-le n xs (x ∷ []) h
 
@@ -109,11 +114,15 @@ other_thread setting t (Close u) before ne = rw (ne_eqb u t ne) refl
 
 module _ (setting : Setting) (u : ℕ) (before : List Step) (k : Counted setting u before) where
   -- one more event changes neither the collected events nor those in the ring
-  ring_kept : (event : Event) → drop (drained u before) (take (pushes u before) (events setting u before ++ event ∷ [])) ≡ drop (drained u before)
+  ring_kept : (event : Event)
+      → drop (drained u before) (take (pushes u before) (events setting u before ++ event ∷ []))
+      ≡ drop (drained u before)
       (take (pushes u before) (events setting u before))
   ring_kept event = ap (drop (drained u before)) (take-append-le (pushes u before) (events setting u before) (event ∷ []) (omega arith))
 
-  collected_kept : (event : Event) → take (drained u before) (events setting u before ++ event ∷ []) ≡ take (drained u before) (events setting u before)
+  collected_kept : (event : Event)
+      → take (drained u before) (events setting u before ++ event ∷ [])
+      ≡ take (drained u before) (events setting u before)
   collected_kept event = take-append-le (drained u before) (events setting u before) (event ∷ []) (omega arith)
 
   new_pending : (asked : Request) → MayAsk setting u before →
@@ -126,21 +135,23 @@ module _ (setting : Setting) (u : ℕ) (before : List Step) (k : Counted setting
       rw (e1, e2) refl
 
   -- after an ask the call of its thread is pending and held
-  pub own_ask : MayAsk setting u before → (kind : Kind) → thread_after setting u (ask_of kind u ∷ before) ≡ record (thread_after setting u before) {
-    asked = asks u before + 1;
-    pending = Some (record { request = asked_for kind u (asks u before); answer = None });
-    held = Some (record { ticket = tickets before; thread = u; what = call_of (asked_for kind u (asks u before)) });
-  }
+  pub own_ask : MayAsk setting u before → (kind : Kind)
+      → thread_after setting u (ask_of kind u ∷ before) ≡ record (thread_after setting u before) {
+        asked = asks u before + 1;
+        pending = Some (record { request = asked_for kind u (asks u before); answer = None });
+        held = Some (record { ticket = tickets before; thread = u; what = call_of (asked_for kind u (asks u before)) });
+      }
   own_ask m Enq = rw (same_number u) (same_view _ _ refl (omega arith) (new_pending (Enqueue (value_name u (asks u before))) m)
       (slice_get_at (events setting u before) _ (pushes u before) (omega arith)) (ring_kept _) (collected_kept _))
   own_ask m Deq = rw (same_number u) (same_view _ _ refl (omega arith) (new_pending Dequeue m)
       (slice_get_at (events setting u before) _ (pushes u before) (omega arith)) (ring_kept _) (collected_kept _))
 
   -- a push moves the held event of its thread into the ring
-  pub own_push : MayPush setting u before → thread_after setting u (Push u ∷ before) ≡ record (thread_after setting u before) {
-    held = None;
-    ring = with_last (thread_after setting u before).ring (thread_after setting u before).held;
-  }
+  pub own_push : MayPush setting u before
+      → thread_after setting u (Push u ∷ before) ≡ record (thread_after setting u before) {
+        held = None;
+        ring = with_last (thread_after setting u before).ring (thread_after setting u before).held;
+      }
   own_push m = rw (same_number u) (same_view _ _ refl refl refl
       (slice_get_past (events setting u before) (suc (pushes u before)) (omega arith))
       (ap (drop (drained u before)) (take_next (events setting u before) (pushes u before))
@@ -170,14 +181,16 @@ module _ (setting : Setting) (u : ℕ) (before : List Step) (k : Counted setting
   own_say m asked answer is = rw (same_number u) (same_view _ _ refl refl (own_answer m asked answer is) refl refl refl)
 
   -- the answer of the pending operation
-  pub answer_of_pending : MayReturn setting u before → (answer : Answer) → given_answer (pending setting u before) ≡ Some answer
+  pub answer_of_pending : MayReturn setting u before → (answer : Answer)
+      → given_answer (pending setting u before) ≡ Some answer
       → answered setting u before ≡ Some answer
   answer_of_pending m answer is =
       let e1 : ltb (returns u before) (asks u before) ≡ true = lt-ltb (returns u before) (asks u before) m.one_pending in
       let e2 : ltb (returns u before) (answers u before) ≡ true = lt-ltb (returns u before) (answers u before) m.has_answer in
       of_map (request u before) (rw (e1, e2) at is)
     where
-      of_map : (o : Option Request) → given_answer (option_map (with_answer (answered setting u before)) o) ≡ Some answer
+      of_map : (o : Option Request)
+          → given_answer (option_map (with_answer (answered setting u before)) o) ≡ Some answer
           → answered setting u before ≡ Some answer
       of_map None h = cc
       of_map (Some q) h = h
@@ -211,11 +224,13 @@ module _ (setting : Setting) (u : ℕ) (before : List Step) (k : Counted setting
   own_close = rw (same_number u) refl
 
   -- a thread holds an event if it pushed fewer than it asked and returned
-  pub seen_held : is_some (thread_after setting u before).held ≡ ltb (pushes u before) (asks u before + returns u before)
+  pub seen_held : is_some (thread_after setting u before).held
+      ≡ ltb (pushes u before) (asks u before + returns u before)
   seen_held = is_some-slice_get (events setting u before) (pushes u before) ∙ ap (ltb (pushes u before)) k.events_are
 
   -- a thread holds no event if it pushed as many as it asked and returned
-  pub seen_none_held : is_none (thread_after setting u before).held ≡ leb (asks u before + returns u before) (pushes u before)
+  pub seen_none_held : is_none (thread_after setting u before).held
+      ≡ leb (asks u before + returns u before) (pushes u before)
   seen_none_held = is_none-slice_get (events setting u before) (pushes u before) ∙ ap (λ (n : ℕ). leb n (pushes u before)) k.events_are
 
   -- the number of events in a ring, by the counts
@@ -227,7 +242,8 @@ module _ (setting : Setting) (u : ℕ) (before : List Step) (k : Counted setting
         (events setting u before),
   )
 
-  is_some-mapped : {X Y : Type 0} (f : X → Y) (o : Option X) → is_some o ≡ true → (is_some (option_map f o) ≡ true) × (is_none (option_map f o) ≡ false)
+  is_some-mapped : {X Y : Type 0} (f : X → Y) (o : Option X) → is_some o ≡ true
+      → (is_some (option_map f o) ≡ true) × (is_none (option_map f o) ≡ false)
   is_some-mapped f None h = cc
   is_some-mapped f (Some x) h = (refl, refl)
 
@@ -246,7 +262,8 @@ module _ (setting : Setting) (u : ℕ) (before : List Step) (k : Counted setting
         rw (e1, e2) (refl, refl)
   ]
 
-  given-mapped : (f : Request → Pending) (a : Option Answer) → ((q : Request) → (f q).answer ≡ a) → (o : Option Request) → is_some o ≡ true
+  given-mapped : (f : Request → Pending) (a : Option Answer) → ((q : Request) → (f q).answer ≡ a)
+      → (o : Option Request) → is_some o ≡ true
       → given_answer (option_map f o) ≡ a
   given-mapped f a h None s = cc
   given-mapped f a h (Some q) s = h q
@@ -259,7 +276,8 @@ module _ (setting : Setting) (u : ℕ) (before : List Step) (k : Counted setting
       let some : is_some (request u before) ≡ true = has_request u before (omega arith) in
       rw e1 (given-mapped _ (cond (ltb (returns u before) (answers u before)) (answered setting u before) None) (λ q. refl) (request u before) some)
 
-  some_or_none : (b : Bool) (o : Option Answer) → (b ≡ true → is_some o ≡ true) → (is_some (cond b o None) ≡ b) × (is_none (cond b o None) ≡ not b)
+  some_or_none : (b : Bool) (o : Option Answer) → (b ≡ true → is_some o ≡ true)
+      → (is_some (cond b o None) ≡ b) × (is_none (cond b o None) ≡ not b)
   some_or_none true o h = let e = h refl in (e, ap not e)
   some_or_none false o h = (refl, refl)
 
@@ -270,7 +288,8 @@ module _ (setting : Setting) (u : ℕ) (before : List Step) (k : Counted setting
   ]
 
   -- the pending operation has its answer if more were answered than returned
-  pub seen_given : (is_some (given_answer (thread_after setting u before).pending) ≡ ltb (returns u before) (answers u before))
+  pub seen_given : (is_some (given_answer (thread_after setting u before).pending)
+      ≡ ltb (returns u before) (answers u before))
       × (is_none (given_answer (thread_after setting u before).pending) ≡ leb (answers u before) (returns u before))
   seen_given = elim (cases_lt (returns u before) (asks u before)) [
     | inl less ↦

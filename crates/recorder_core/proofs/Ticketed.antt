@@ -1,5 +1,6 @@
 -- The order of operations is that of their steps.
-use Rattle.std.proofs.Common.{◌≡◌, ℕ, Bool, true, false, cond, List, [], ◌∷◌, Option, Some, None, refl, sym, ◌∙◌, ap, subst, inl, inr}
+use Rattle.std.proofs.Common.{◌≡◌, ℕ, Bool, true, false, cond, List, [], ◌∷◌, Option, Some, None, refl, sym, ◌∙◌, ap}
+use Rattle.std.proofs.Common.{subst, inl, inr}
 use Rattle.std.specs.Prelude.{Contains, find, nat_eq, flat_map, ◌↔◌}
 use Rattle.std.specs.List.{cons_option}
 use Rattle.std.proofs.lemmas.Bool.{eqb-true}
@@ -15,7 +16,8 @@ use Rattle.history_merge.specs.Merge.{IsMerged}
 use Rattle.history_merge.specs.Operations.{Precedes, operations_of, operation_of, kind_of}
 use Rattle.recorder_core.specs.Setting.{Setting}
 use Rattle.recorder_core.specs.Schedule.{Attempt, accepted, events}
-use Rattle.recorder_core.specs.Laws.{collected_in, collected_lists, operation_call, operation_return, call_of_kind, return_of_kind, ReturnsBeforeAsk}
+use Rattle.recorder_core.specs.Laws.{collected_in, collected_lists, operation_call, operation_return, call_of_kind}
+use Rattle.recorder_core.specs.Laws.{return_of_kind, ReturnsBeforeAsk}
 use Rattle.recorder_core.proofs.Collecting.{list_at}
 use Rattle.recorder_core.proofs.Members.{joined_contains}
 use Rattle.recorder_core.proofs.Precedence.{place_of, lower_stands_before, stands_before_is_lower, collected_is_event}
@@ -26,12 +28,14 @@ found_among : {X : Type 0} (p : X → Bool) (xs : List X) (x : X) → find p xs 
 found_among p [] x is = cc
 found_among {X} p (y ∷ xs) x is = by_head (p y) refl (found_among p xs x) is
   where
-    by_head : (b : Bool) → p y ≡ b → (find p xs ≡ Some x → Contains xs x × (p x ≡ true)) → cond b (Some y) (find p xs) ≡ Some x
+    by_head : (b : Bool) → p y ≡ b → (find p xs ≡ Some x → Contains xs x × (p x ≡ true))
+        → cond b (Some y) (find p xs) ≡ Some x
         → Contains (y ∷ xs) x × (p x ≡ true)
     by_head true passes more e = let same : y ≡ x = cc in (subst (λ (z : X). Contains (y ∷ xs) z) same (contains_head y xs), ap p (sym same) ∙ passes)
     by_head false passes more e = let m = more e in (one_deeper y xs x m.0, m.1)
 
-whats_of : (call answer : What) (kind : OpKind) → kind_of call answer ≡ Some kind → (call ≡ call_of_kind kind) × (answer ≡ return_of_kind kind)
+whats_of : (call answer : What) (kind : OpKind) → kind_of call answer ≡ Some kind
+    → (call ≡ call_of_kind kind) × (answer ≡ return_of_kind kind)
 whats_of (CallEnq v) RetEnq kind is = let same : Enqueue v ≡ kind = same_Some (Enqueue v) kind is in (ap call_of_kind same, ap return_of_kind same)
 whats_of (CallEnq v) RetNot kind is = let same : EnqueueFailed v ≡ kind = same_Some (EnqueueFailed v) kind is in (ap call_of_kind same, ap return_of_kind same)
 whats_of CallDeq (RetDeq v) kind is = let same : Dequeue v ≡ kind = same_Some (Dequeue v) kind is in (ap call_of_kind same, ap return_of_kind same)
@@ -39,14 +43,16 @@ whats_of CallDeq RetEmpty kind is = let same : DequeueEmpty ≡ kind = same_Some
 whats_of _ _ kind is = cc
 
 -- the call and the return of an operation
-made_by : (call answer : Event) (o : Operation) → operation_of call (Some answer) ≡ Some o → answer.thread ≡ call.thread
+made_by : (call answer : Event) (o : Operation) → operation_of call (Some answer) ≡ Some o
+    → answer.thread ≡ call.thread
     → (call ≡ operation_call o) × (answer ≡ operation_return o)
 made_by call answer o is threads = by_kind (kind_of call.what answer.what) refl is
   where
     as_operation : Option OpKind → Option Operation
     as_operation k = elim k [ None ↦ None | Some x ↦ Some (record { call = call.ticket; ret = answer.ticket; thread = call.thread; kind = x }) ]
 
-    by_kind : (k : Option OpKind) → kind_of call.what answer.what ≡ k → as_operation k ≡ Some o → (call ≡ operation_call o) × (answer ≡ operation_return o)
+    by_kind : (k : Option OpKind) → kind_of call.what answer.what ≡ k → as_operation k ≡ Some o
+        → (call ≡ operation_call o) × (answer ≡ operation_return o)
     by_kind None is' e = cc
     by_kind (Some kind) is' e =
         let made : Operation = record { call = call.ticket; ret = answer.ticket; thread = call.thread; kind = kind } in
@@ -73,7 +79,8 @@ operation_events (e ∷ later) o among = by_made (operation_of e (find (λ r. na
         (subst (Contains (e ∷ later)) m.0 (contains_head e later), subst (Contains (e ∷ later)) m.1 (one_deeper e later answer f.0))
 
     by_made : (made : Option Operation) → operation_of e (find (λ r. nat_eq r.thread e.thread) later) ≡ made
-        → (Contains (operations_of later) o → Contains later (operation_call o) × Contains later (operation_return o)) →
+        → (Contains (operations_of later) o → Contains later (operation_call o) × Contains later (operation_return o))
+        →
         Contains (cons_option made (operations_of later)) o → Contains (e ∷ later) (operation_call o) × Contains (e ∷ later) (operation_return o)
     by_made None is more there = let m = more there in (one_deeper e later (operation_call o) m.0, one_deeper e later (operation_return o) m.1)
     by_made (Some p) is more there = elim (contains_cons p (operations_of later) o there) [
@@ -83,7 +90,8 @@ operation_events (e ∷ later) o among = by_made (operation_of e (find (λ r. na
 
 -- ---- in the collected history
 
-module _ (setting : Setting) (schedule : List Attempt) (merged : List Event) (is : IsMerged (collected_lists setting schedule) merged) where
+module _ (setting : Setting) (schedule : List Attempt) (merged : List Event)
+    (is : IsMerged (collected_lists setting schedule) merged) where
   -- an event of the collected history is one of its thread's
   placed : (e : Event) → Contains merged e → (t : ℕ) × Contains (events setting t (accepted setting schedule)) e
   placed e among =

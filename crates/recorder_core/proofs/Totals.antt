@@ -43,7 +43,8 @@ total_like : (f g : ℕ → ℕ) (n : ℕ) → ((t : ℕ) → f t ≡ g t) → t
 total_like f g zero h = refl
 total_like f g (suc n) h = omega (arith, total_like f g n h, h n)
 
-longer : {X : Type 0} (b : Bool) (x : X) (xs : List X) → length (cond b (x ∷ xs) xs) ≡ cond b (suc (length xs)) (length xs)
+longer : {X : Type 0} (b : Bool) (x : X) (xs : List X)
+    → length (cond b (x ∷ xs) xs) ≡ cond b (suc (length xs)) (length xs)
 longer true x xs = refl
 longer false x xs = refl
 
@@ -91,7 +92,8 @@ added setting schedule = after_each setting (Added setting)
     (λ before attempt k none. adds_step setting attempt.step attempt.starved before k none) schedule
 
 -- no schedule takes more than two tickets for each operation that may be asked
-pub tickets_limited : (setting : Setting) (schedule : List Attempt) → tickets (accepted setting schedule) ≤ 2 * MAX_OPERATIONS
+pub tickets_limited : (setting : Setting) (schedule : List Attempt)
+    → tickets (accepted setting schedule) ≤ 2 * MAX_OPERATIONS
 tickets_limited setting schedule =
     let k = added setting schedule in
     let steps = accepted setting schedule in
@@ -100,7 +102,8 @@ tickets_limited setting schedule =
     omega (arith, k.limited, k.tickets_are, k.asks_are, b)
 
 -- a reachable machine has asked no more than it may, and has taken at most two tickets for each operation
-pub is_small : (machine : MachineView) → IsReachable machine → (machine.asked ≤ MAX_OPERATIONS) × (machine.next_ticket ≤ 2 * MAX_OPERATIONS)
+pub is_small : (machine : MachineView) → IsReachable machine
+    → (machine.asked ≤ MAX_OPERATIONS) × (machine.next_ticket ≤ 2 * MAX_OPERATIONS)
 is_small machine (setting, schedule, after) = (
   omega (arith, after.asked, (added setting schedule).limited),
   omega
@@ -115,7 +118,8 @@ total_doubled f g zero h = omega arith
 total_doubled f g (suc n) h = omega (arith, total_doubled f g n (λ t below. h t (omega arith)), h n (omega arith))
 
 -- the bound of sums, with two to spare in one thread
-pub total_doubled_less : (f g : ℕ → ℕ) (u n : ℕ) → ((t : ℕ) → t < n → 2 * f t ≤ g t) → u < n → 2 * f u + 2 ≤ g u → 2 * total f n + 2 ≤ total g n
+pub total_doubled_less : (f g : ℕ → ℕ) (u n : ℕ) → ((t : ℕ) → t < n → 2 * f t ≤ g t) → u < n → 2 * f u + 2 ≤ g u
+    → 2 * total f n + 2 ≤ total g n
 total_doubled_less f g u zero h within more = absurd (omega arith)
 total_doubled_less f g u (suc n) h within more = elim (cases_eq u n) [
   | inl same ↦

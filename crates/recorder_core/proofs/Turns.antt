@@ -1,5 +1,6 @@
 -- Calls and returns of one list, in turn.
-use Rattle.std.proofs.Common.{◌≡◌, ℕ, zero, suc, ◌*◌, ◌⊎◌, true, false, List, [], ◌∷◌, ◌++◌, length, Some, refl, inl, inr, arith, append_assoc}
+use Rattle.std.proofs.Common.{◌≡◌, ℕ, zero, suc, ◌*◌, ◌⊎◌, true, false, List, [], ◌∷◌, ◌++◌, length, Some, refl, inl}
+use Rattle.std.proofs.Common.{inr, arith, append_assoc}
 use Rattle.event_records.specs.declared.event.Event.{Event}
 use Rattle.event_records.specs.declared.event.What.{What}
 use Rattle.event_records.specs.declared.event.What.TheVariants.{CallEnq, RetEnq, RetNot, CallDeq, RetDeq, RetEmpty}
@@ -19,7 +20,8 @@ turns_split (e ∷ []) later turns both = absurd turns
 turns_split (e ∷ f ∷ events) later turns both = turns_split events later turns.1 both.1
 
 -- the events from the pending call on take turns too
-pub turns_from_call : (events : List Event) (call : Event) (later : List Event) → TakesTurns events → TakesTurns ((events ++ call ∷ []) ++ later)
+pub turns_from_call : (events : List Event) (call : Event) (later : List Event) → TakesTurns events
+    → TakesTurns ((events ++ call ∷ []) ++ later)
     → TakesTurns (call ∷ later)
 turns_from_call events call later turns both = turns_split events (call ∷ later) turns (rw append_assoc at both)
 
@@ -30,7 +32,8 @@ turns_even (e ∷ []) turns = absurd turns
 turns_even (e ∷ f ∷ events) turns = let more = turns_even events turns.1 in (suc more.0, omega (arith, more.1))
 
 -- a call is answered by the next event
-pub pending_is_answered : (call e : Event) (later : List Event) → TakesTurns (call ∷ e ∷ later) → answers call.what e.what ≡ true
+pub pending_is_answered : (call e : Event) (later : List Event) → TakesTurns (call ∷ e ∷ later)
+    → answers call.what e.what ≡ true
 pending_is_answered call e later turns = turns.0
 
 call_cases : (call answer : What) → answers call answer ≡ true → ((v : ℕ) × (call ≡ CallEnq v)) ⊎ (call ≡ CallDeq)
@@ -42,7 +45,8 @@ call_cases (RetDeq v) answer fit = cc
 call_cases RetEmpty answer fit = cc
 
 -- the first event is a call
-pub first_is_call : (e : Event) (later : List Event) → TakesTurns (e ∷ later) → ((v : ℕ) × (e.what ≡ CallEnq v)) ⊎ (e.what ≡ CallDeq)
+pub first_is_call : (e : Event) (later : List Event) → TakesTurns (e ∷ later)
+    → ((v : ℕ) × (e.what ≡ CallEnq v)) ⊎ (e.what ≡ CallDeq)
 first_is_call e [] turns = absurd turns
 first_is_call e (f ∷ later) turns = call_cases e.what f.what turns.0
 

@@ -1,5 +1,6 @@
 -- The text of several contents, one for each element.
-use Rattle.svg_picture.proofs.Common.{[], ◌++◌, ◌∙◌, ◌∷◌, ◌≡◌, ap, append-nil, append_assoc, flat_map, List, map, sym, ℕ}
+use Rattle.svg_picture.proofs.Common.{[], ◌++◌, ◌∙◌, ◌∷◌, ◌≡◌, ap, append-nil, append_assoc, flat_map, List, map, sym}
+use Rattle.svg_picture.proofs.Common.{ℕ}
 use Rattle.svg_picture.proofs.Common.{Content, each, group, text_of}
 use Rattle.std.proofs.lemmas.List.{map-append}
 use Rattle.std.proofs.lemmas.Grind.{flat_map-append, take_at_read}

@@ -4,14 +4,16 @@ use Rattle.text_lines.proofs.Common.{◌==◌, if◌then◌else◌, eqb_tells, A
 use Rattle.text_lines.specs.Writing.{Took, Refused, TakesTimes}
 
 module _ {S : Type 0} (transition : S → Asked → S → Type 0) where
-  takes_then : (m n : ℕ) (a b c : S) → TakesTimes transition m a b → TakesTimes transition n b c → (k : ℕ) × TakesTimes transition k a c
+  takes_then : (m n : ℕ) (a b c : S) → TakesTimes transition m a b → TakesTimes transition n b c
+      → (k : ℕ) × TakesTimes transition k a c
   takes_then zero n a b c same after = (n, subst (λ (s : S). TakesTimes transition n s c) (sym same) after)
   takes_then (suc m) n a b c before after =
       let rest = takes_then m n before.0 b c before.2 after in
       (suc rest.0, (before.0, before.1, rest.1))
 
   -- a write that took some bytes took
-  pub took : (n : ℕ) (piece : List ℕ) (a b : S) → (n ≡ 0 → ⊥) → transition a (if (n == 0) && not (length piece == 0) then Refused else Took) b → transition a Took b
+  pub took : (n : ℕ) (piece : List ℕ) (a b : S) → (n ≡ 0 → ⊥)
+      → transition a (if (n == 0) && not (length piece == 0) then Refused else Took) b → transition a Took b
   took n piece a b some asked =
       elim (eqb_tells n 0) [
         | inl h ↦ absurd (some h.1)

@@ -58,7 +58,8 @@ module _ (xs : List ℕ) (word others count : ℕ) (eight : IsEightBytes xs) (is
 
     -- the digits, shifted up, have zeros before them
     pub valued : (shifted value : ℕ) → shifted ≡ lanes * 2 ^ (64 - 8 * count) % 2 ^ 64
-        → ((ds : List ℕ) → IsEightDigits ds → shifted ≡ from_le_bytes w64 ds → value ≡ number_from_digits 10 ds) → value ≡ digits_value 10 (take count xs)
+        → ((ds : List ℕ) → IsEightDigits ds → shifted ≡ from_le_bytes w64 ds → value ≡ number_from_digits 10 ds)
+        → value ≡ digits_value 10 (take count xs)
     valued shifted value shifted_are worth =
         let power : 2 ^ (64 - 8 * count) ≡ 256 ^ (8 - count) =
         eqb→eq _ _ (every_below (λ n. eqb (2 ^ (64 - 8 * n)) (256 ^ (8 - n))) 9 tt count (omega (arith, most))) in
@@ -67,7 +68,8 @@ module _ (xs : List ℕ) (word others count : ℕ) (eight : IsEightBytes xs) (is
         worth s.0 s.1 (s.2 ∙ sym (word_is s.0 (s.1.0, digits_fit s.0 s.1.1))) ∙ s.3
 
 -- digits at a place, and those that follow them
-pub more_digits : (bytes : List ℕ) (at count more value next : ℕ) → IsDigitsSoFar (drop at bytes) count value → IsDigitsSoFar (drop (at + count) bytes) more next
+pub more_digits : (bytes : List ℕ) (at count more value next : ℕ) → IsDigitsSoFar (drop at bytes) count value
+    → IsDigitsSoFar (drop (at + count) bytes) more next
     → IsDigitsSoFar (drop at bytes) (count + more) (value * 10 ^ more + next)
 more_digits bytes at count more value next first behind =
     let last = rw (← drop-drop count at bytes) at behind in
@@ -81,7 +83,8 @@ more_digits bytes at count more value next first behind =
     }
 
 -- digits without a leading zero are the number at their place
-pub number_stands_at : (bytes : List ℕ) (at count value : ℕ) → IsDigitsSoFar (drop at bytes) count value → value < 2 ^ 64 → 0 < count
+pub number_stands_at : (bytes : List ℕ) (at count value : ℕ) → IsDigitsSoFar (drop at bytes) count value
+    → value < 2 ^ 64 → 0 < count
     → (1 < count → get_or bytes at 0 ≡ 48 → ⊥) → drop at bytes ≡ decimal value ++ drop (at + count) bytes
 number_stands_at bytes at count value so_far small some lead =
     let first : get_or (drop at bytes) 0 0 ≡ get_or bytes at 0 = get_or-drop at bytes 0 0 ∙ ap (λ (place : ℕ). get_or bytes place 0) (add-zero at) in

@@ -1,5 +1,6 @@
 -- The fields of a line, one after another.
-use Rattle.text_lines.proofs.Common.{take_rest, ◌≡◌, ℕ, ◌+◌, ◌-◌, ◌<◌, List, [], ◌∷◌, ◌++◌, length, get_or, take, drop, arith}
+use Rattle.text_lines.proofs.Common.{take_rest, ◌≡◌, ℕ, ◌+◌, ◌-◌, ◌<◌, List, [], ◌∷◌, ◌++◌, length, get_or, take, drop}
+use Rattle.text_lines.proofs.Common.{arith}
 use Rattle.text_lines.proofs.Common.{ap, sym, ◌∙◌, refl, false, suc, Bool, true, cond, inl, inr}
 use Rattle.text_lines.proofs.Common.{take-append-drop, get_or-take, length-take-le, All-from_get_or}
 use Rattle.text_lines.proofs.Common.{slice_split_at, slice_split_none, eqb_tells, nat_tests, ◌==◌, fields_of}
@@ -19,13 +20,15 @@ module _ (separator : ℕ) where
   other_byte b other = elim (eqb_tells b separator) [ inl h ↦ absurd (other h.1) | inr h ↦ h.0 ]
 
   -- bytes without a separator are one part
-  pub is_one_part : (bytes : List ℕ) → ((k : ℕ) → k < length bytes → get_or bytes k 0 ≡ separator → ⊥) → parts bytes ≡ bytes ∷ []
+  pub is_one_part : (bytes : List ℕ) → ((k : ℕ) → k < length bytes → get_or bytes k 0 ≡ separator → ⊥)
+      → parts bytes ≡ bytes ∷ []
   is_one_part bytes none = slice_split_none (λ b. b == separator) bytes
       (All-from_get_or (λ b. (b == separator) ≡ false) bytes 0 (λ k h. other_byte (get_or bytes k 0) (none k h)))
 
   -- the first part ends at the first separator
   pub cut_at_first : (bytes : List ℕ) (i : ℕ) → i < length bytes → ((k : ℕ) → k < i → get_or bytes k 0 ≡ separator → ⊥)
-      → get_or bytes i 0 ≡ separator → parts bytes ≡ take i bytes ∷ parts (take (length bytes - (i + 1)) (drop (i + 1) bytes))
+      → get_or bytes i 0 ≡ separator
+      → parts bytes ≡ take i bytes ∷ parts (take (length bytes - (i + 1)) (drop (i + 1) bytes))
   cut_at_first bytes i within none here =
       let front = take i bytes in
       let front_length : length front ≡ i = length-take-le i bytes (omega arith) in

@@ -10,7 +10,8 @@ use Rattle.std.proofs.Math.Seq.{drop-append-add}
 use Rattle.text_lines.specs.Lines.{Whole, TooLong, Unfinished, Nothing, line, front_of, longest_line}
 
 -- the first line feed comes after bytes that have none
-place_after : (xs ys : List ℕ) → has_no_line_feed xs ≡ true → position_or_len is_line_feed (xs ++ ys) ≡ length xs + position_or_len is_line_feed ys
+place_after : (xs ys : List ℕ) → has_no_line_feed xs ≡ true
+    → position_or_len is_line_feed (xs ++ ys) ≡ length xs + position_or_len is_line_feed ys
 place_after [] ys clean = sym (zero-add (position_or_len is_line_feed ys))
 place_after (x ∷ xs) ys clean =
     elim (is_line_feed x) as (λ v. (not v && has_no_line_feed xs) ≡ true
@@ -21,7 +22,8 @@ place_after (x ∷ xs) ys clean =
 
 -- the front follows from the results of the tests
 front_by : (bytes : List ℕ) (p : ℕ) → position_or_len is_line_feed bytes ≡ p
-    → front_of bytes ≡ (cond (nat_lt p (length bytes) && nat_le p longest_line) (Whole (take p bytes) (drop (p + 1) bytes))
+    → front_of bytes ≡ (cond (nat_lt p (length bytes) && nat_le p longest_line)
+    (Whole (take p bytes) (drop (p + 1) bytes))
     (cond (nat_lt longest_line (length bytes)) TooLong (cond (nat_lt 0 (length bytes)) Unfinished Nothing)))
 front_by bytes p e = ap (λ (q : ℕ). cond (nat_lt q (length bytes) && nat_le q longest_line) (Whole (take q bytes) (drop (q + 1) bytes))
     (cond (nat_lt longest_line (length bytes)) TooLong (cond (nat_lt 0 (length bytes)) Unfinished Nothing))) e
@@ -47,7 +49,8 @@ front_unfinished bytes part some =
     front_by bytes (length bytes) here ∙ rw (past, few, more) refl
 
 -- one more byte than a line may have is too long
-pub front_too_long : (given : List ℕ) (b : ℕ) (more : List ℕ) → IsPartOfLine given → length given ≡ longest_line → is_line_feed b ≡ false
+pub front_too_long : (given : List ℕ) (b : ℕ) (more : List ℕ) → IsPartOfLine given → length given ≡ longest_line
+    → is_line_feed b ≡ false
     → front_of ((given ++ b ∷ []) ++ more) ≡ TooLong
 front_too_long given b more part full other =
     let bytes = (given ++ b ∷ []) ++ more in

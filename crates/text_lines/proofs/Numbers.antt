@@ -19,7 +19,8 @@ both true b e = (refl, e)
 both false b e = absurd (cc)
 
 -- if two steps give no fault, neither does each
-pub bind_ok : {A B : Type 0} (r : Result A TextFault) (f : A → Result B TextFault) (y : B) → (r >>= f) ≡ Ok y → (x : A) × (r ≡ Ok x) × (f x ≡ Ok y)
+pub bind_ok : {A B : Type 0} (r : Result A TextFault) (f : A → Result B TextFault) (y : B) → (r >>= f) ≡ Ok y
+    → (x : A) × (r ≡ Ok x) × (f x ≡ Ok y)
 bind_ok (Ok x) f y e = (x, refl, e)
 bind_ok (Err d) f y e = absurd (cc)
 
@@ -34,14 +35,16 @@ pub digits_test : IsDigitsTest (λ ds. list_all is_ascii_digit ds ≡ true)
 digits_test = search rules
 
 -- a number field is spelled as its number is written
-pub number_spelled : (field : List ℕ) → is_number field ≡ true → digits_value 10 field < 2 ^ 64 → field ≡ decimal (digits_value 10 field)
+pub number_spelled : (field : List ℕ) → is_number field ≡ true → digits_value 10 field < 2 ^ 64
+    → field ≡ decimal (digits_value 10 field)
 number_spelled field e small =
     let p = both (nat_lt 0 (length field)) _ e in
     let q = both (list_all is_ascii_digit field) _ p.1 in
     sym (decimal-digits_value (numerals_by_value _ digits_test) field q.0 (grind (arith, nat_tests, p.0)) (λ lead. grind (arith, nat_tests, p.0, q.1)) small)
 
 -- a number field that is read is the written number, and not too great
-pub number_ok : (n greatest : ℕ) (field : List ℕ) (v : ℕ) → greatest < 2 ^ 64 → number_in n greatest field ≡ Ok v → (field ≡ decimal v) × (v ≤ greatest)
+pub number_ok : (n greatest : ℕ) (field : List ℕ) (v : ℕ) → greatest < 2 ^ 64 → number_in n greatest field ≡ Ok v
+    → (field ≡ decimal v) × (v ≤ greatest)
 number_ok n greatest field v small e =
     elim (chosen (is_number field) _ _ _ e) [
       | inl h ↦ elim (chosen (nat_le (digits_value 10 field) greatest) _ _ _ h.1) [
@@ -55,7 +58,8 @@ number_ok n greatest field v small e =
     ]
 
 -- a number field in a range is read as the written number
-pub between_ok : (n least greatest : ℕ) (field : List ℕ) (v : ℕ) → greatest < 2 ^ 64 → number_between n least greatest field ≡ Ok v
+pub between_ok : (n least greatest : ℕ) (field : List ℕ) (v : ℕ) → greatest < 2 ^ 64
+    → number_between n least greatest field ≡ Ok v
     → (field ≡ decimal v) × (least ≤ v) × (v ≤ greatest)
 between_ok n least greatest field v small e =
     let a = bind_ok (number_in n greatest field) _ v e in

@@ -1,5 +1,6 @@
 -- The front of bytes, found in one pass.
-use Rattle.text_lines.proofs.Common.{or-true, ◌≡◌, ℕ, ◌-◌, ◌^◌, ◌<◌, ◌≤◌, List, ◌++◌, length, take, drop, get_or, Bool, true}
+use Rattle.text_lines.proofs.Common.{or-true, ◌≡◌, ℕ, ◌-◌, ◌^◌, ◌<◌, ◌≤◌, List, ◌++◌, length, take, drop, get_or, Bool}
+use Rattle.text_lines.proofs.Common.{true}
 use Rattle.text_lines.proofs.Common.{false, ◌||◌, not, nat_lt, arith, ap, sym, ◌∙◌, refl, inl, inr, ◌==◌, decimal}
 use Rattle.text_lines.proofs.Common.{is_ascii_digit, list_all, w64, from_le_bytes, nat_tests}
 use Rattle.text_lines.proofs.Common.{take-append-drop, length-take-le, get_or-take, take_rest, cases_lt}
@@ -16,7 +17,8 @@ by_count count first lead =
       | inr few ↦ let less : nat_lt count 2 ≡ true = grind (arith, nat_tests, few) in rw less refl
     ]
 
-number_is : (bytes : List ℕ) (count : ℕ) → count ≤ length bytes → list_all is_ascii_digit (take count bytes) ≡ true → 0 < count
+number_is : (bytes : List ℕ) (count : ℕ) → count ≤ length bytes → list_all is_ascii_digit (take count bytes) ≡ true
+    → 0 < count
     → (1 < count → get_or bytes 0 0 ≡ 48 → ⊥) → is_number (take count bytes) ≡ true
 number_is bytes count within digits some lead =
     let long : length (take count bytes) ≡ count = length-take-le count bytes within in
@@ -25,7 +27,8 @@ number_is bytes count within digits some lead =
     rw (any, digits, long, first) (by_count count (get_or bytes 0 0) lead)
 
 -- digits without a leading zero are the number there
-pub number_stands : (bytes : List ℕ) (count value : ℕ) → IsDigitsSoFar bytes count value → 0 < count → (1 < count → get_or bytes 0 0 ≡ 48 → ⊥)
+pub number_stands : (bytes : List ℕ) (count value : ℕ) → IsDigitsSoFar bytes count value → 0 < count
+    → (1 < count → get_or bytes 0 0 ≡ 48 → ⊥)
     → value < 2 ^ 64 → bytes ≡ decimal value ++ take (length bytes - count) (drop count bytes)
 number_stands bytes count value so_far some lead small =
     let field = take count bytes in
@@ -40,7 +43,8 @@ by_bool true held failed = held refl
 by_bool false held failed = failed refl
 
 -- eight bytes are equal if they make the same number
-pub same_eight : (xs ys : List ℕ) (m n : ℕ) → length xs ≡ 8 → length ys ≡ 8 → ((i : ℕ) → get_or xs i 0 < 256) → ((i : ℕ) → get_or ys i 0 < 256)
+pub same_eight : (xs ys : List ℕ) (m n : ℕ) → length xs ≡ 8 → length ys ≡ 8 → ((i : ℕ) → get_or xs i 0 < 256)
+    → ((i : ℕ) → get_or ys i 0 < 256)
     → m ≡ from_le_bytes w64 xs → n ≡ from_le_bytes w64 ys → MatchBool (m == n) (xs ≡ ys) (xs ≡ ys → ⊥)
 same_eight xs ys m n xs_long ys_long xs_fit ys_fit m_is n_is =
     by_bool (m == n) (λ e.

@@ -19,7 +19,8 @@ use Rattle.text_lines.proofs.Fields.{has_field}
 use Rattle.std.specs.List.{starts_with}
 use Rattle.text_lines.specs.Lines.{end_word}
 use Rattle.text_lines.proofs.Numbers.{both, chosen, bind_ok, text_is, between_ok}
-use Rattle.text_lines.proofs.WrittenLines.{is_inner, IsField, number_is_field, all_digits, between_read, IsLineOf, line_of_fields, digits_begin_other}
+use Rattle.text_lines.proofs.WrittenLines.{is_inner, IsField, number_is_field, all_digits, between_read, IsLineOf}
+use Rattle.text_lines.proofs.WrittenLines.{line_of_fields, digits_begin_other}
 
 -- numbers that come after these
 abbrev pub after_numbers : List ℕ → Result (List ℕ) TextFault → Result (List ℕ) TextFault
@@ -28,7 +29,8 @@ after_numbers before later = later >>= λ numbers. Ok (before ++ numbers)
 -- ---- the fields of a line, one after another
 
 -- there is a form at each place
-cut : (forms : List Field) (i : ℕ) → i < length forms → (form : FieldForm) × (others : List FieldForm) × (map form_of (drop i forms) ≡ form ∷ others)
+cut : (forms : List Field) (i : ℕ) → i < length forms
+    → (form : FieldForm) × (others : List FieldForm) × (map form_of (drop i forms) ≡ form ∷ others)
 cut [] i within = absurd (omega (arith, within))
 cut (f ∷ fs) zero within = (form_of f, map form_of fs, refl)
 cut (f ∷ fs) (suc i) within = cut fs i (omega (arith, within))
@@ -43,7 +45,8 @@ none_left None = refl
 none_left (Some bytes) = let here = has_field bytes.now in rw here.2 refl
 
 -- after the last form no field is left
-pub fields_are_over : (forms : List Field) (i : ℕ) (left : Option (Bor (List ℕ))) (none : Bool) → length forms ≤ i → is_some left ≡ not none
+pub fields_are_over : (forms : List Field) (i : ℕ) (left : Option (Bor (List ℕ))) (none : Bool) → length forms ≤ i
+    → is_some left ≡ not none
     → fits (map form_of (drop i forms)) (fields_left left) ≡ none
 fields_are_over forms i left none over is = rw (drop_all i forms over) (none_left left ∙ ap not is ∙ not-not none)
 
@@ -58,7 +61,8 @@ pub numbers_are_over : (n : ℕ) (numbers : List ℕ) (forms : List Field) (i : 
 numbers_are_over n numbers forms i left = rw (no_numbers n (map form_of (drop i forms)), append-nil) refl
 
 -- after the last form all numbers are read
-pub numbers_are_all : (n : ℕ) (numbers : List ℕ) (forms : List Field) (i : ℕ) (fields : List (List ℕ)) → length forms ≤ i
+pub numbers_are_all : (n : ℕ) (numbers : List ℕ) (forms : List Field) (i : ℕ) (fields : List (List ℕ))
+    → length forms ≤ i
     → after_numbers numbers (numbers_in n (map form_of (drop i forms)) fields) ≡ Ok numbers
 numbers_are_all n numbers forms i fields over = rw (drop_all i forms over, append-nil) refl
 
@@ -81,7 +85,8 @@ has_bits (Word word) = true
 has_bits (Number least greatest) = nat_lt greatest (2 ^ 64)
 
 -- the numbers that a form writes are read back
-pub numbers_back : (n : ℕ) (forms : List FieldForm) (numbers : List ℕ) → list_all has_bits forms ≡ true → AreOfForm forms numbers
+pub numbers_back : (n : ℕ) (forms : List FieldForm) (numbers : List ℕ) → list_all has_bits forms ≡ true
+    → AreOfForm forms numbers
     → numbers_in n forms (spelled forms numbers) ≡ Ok numbers
 numbers_back n [] [] small h = refl
 numbers_back n [] (v ∷ vs) small h = absurd h
@@ -97,7 +102,8 @@ pub record IsWrittenBy (forms : List FieldForm) (numbers : List ℕ) (fields : L
   pub text : fields ≡ spelled forms numbers
   pub within : AreOfForm forms numbers
 
-numbers_ok : (n : ℕ) (forms : List FieldForm) (fields : List (List ℕ)) (numbers : List ℕ) → fits forms fields ≡ true → list_all has_bits forms ≡ true
+numbers_ok : (n : ℕ) (forms : List FieldForm) (fields : List (List ℕ)) (numbers : List ℕ) → fits forms fields ≡ true
+    → list_all has_bits forms ≡ true
     → numbers_in n forms fields ≡ Ok numbers → IsWrittenBy forms numbers fields
 numbers_ok n [] [] numbers fit small e =
     let none : (let nothing : List ℕ = [] in nothing ≡ numbers) = cc (e) in
@@ -122,8 +128,10 @@ numbers_ok n (Number least greatest ∷ forms) (field ∷ fields) numbers fit sm
 module _ {T : Type 0} (Q : T → List ℕ → List (List ℕ) → Type 0) where
   -- a property of the lines that the rows of a table write holds of each line that is read
   pub parse_line_says : (n : ℕ) (table : Table T) (fields : List (List ℕ)) (said : T × List ℕ)
-      → AllByRecursion (λ row. (numbers : List ℕ) → AreOfForm row.1 numbers → Q row.0 numbers (spelled row.1 numbers)) table
-      → list_all (λ row. list_all has_bits row.1) table ≡ true → parse_line n table fields ≡ Ok said → Q said.0 said.1 fields
+      → AllByRecursion (λ row. (numbers : List ℕ) → AreOfForm row.1 numbers
+      → Q row.0 numbers (spelled row.1 numbers)) table
+      → list_all (λ row. list_all has_bits row.1) table ≡ true → parse_line n table fields ≡ Ok said
+      → Q said.0 said.1 fields
   parse_line_says n [] fields said each small e = absurd (cc (e))
   parse_line_says n (row ∷ rows) fields said each small e =
       let p = both (list_all has_bits row.1) _ small in
@@ -189,7 +197,8 @@ number_is_short v greatest within bits =
     let most = length-decimal-le 20 v (omega arith) (omega arith) small in
     grind (arith, nat_tests)
 
-first : (form : FieldForm) (forms : List FieldForm) (numbers : List ℕ) → is_field_form form ≡ true → AreOfForm (form ∷ forms) numbers
+first : (form : FieldForm) (forms : List FieldForm) (numbers : List ℕ) → is_field_form form ≡ true
+    → AreOfForm (form ∷ forms) numbers
     → HasFirst form forms numbers
 first (Word word) forms numbers one h = record { field = word; more = numbers; text = refl; one = one; short = omega arith; within = h }
 first (Number least greatest) forms [] one h = absurd h
@@ -205,7 +214,8 @@ first (Number least greatest) forms (v ∷ vs) one h =
       within = h.2;
     }
 
-all_fields : (forms : List FieldForm) (numbers : List ℕ) → list_all is_field_form forms ≡ true → AreOfForm forms numbers
+all_fields : (forms : List FieldForm) (numbers : List ℕ) → list_all is_field_form forms ≡ true
+    → AreOfForm forms numbers
     → AllByRecursion IsField (spelled forms numbers)
 all_fields [] numbers all h = tt
 all_fields (form ∷ forms) numbers all h =
@@ -245,7 +255,8 @@ starts_other (x ∷ xs) (y ∷ ys) rest other =
       | false ↦ λ _. refl
     ] other
 
-begins_so : (forms : List FieldForm) (numbers : List ℕ) → begins_other forms ≡ true → list_all is_field_form forms ≡ true → AreOfForm forms numbers
+begins_so : (forms : List FieldForm) (numbers : List ℕ) → begins_other forms ≡ true
+    → list_all is_field_form forms ≡ true → AreOfForm forms numbers
     → begins_as_end (spaced (spelled forms numbers)) ≡ false
 begins_so [] numbers other all h = absurd (cc (other))
 begins_so (Word word ∷ forms) numbers other all h =
@@ -260,7 +271,8 @@ begins_so (Number least greatest ∷ forms) (v ∷ vs) other all h =
     rw rest.1 (digits_begin_other (decimal v) rest.0 (decimal_nonempty v small) (all_digits v small))
 
 -- the fields that a form writes are a line
-pub spelled_is_line : (forms : List FieldForm) (numbers : List ℕ) → is_line_form forms ≡ true → AreOfForm forms numbers → IsLineOf (spelled forms numbers)
+pub spelled_is_line : (forms : List FieldForm) (numbers : List ℕ) → is_line_form forms ≡ true → AreOfForm forms numbers
+    → IsLineOf (spelled forms numbers)
 spelled_is_line [] numbers is h = absurd (cc (is))
 spelled_is_line (form ∷ forms) numbers is h =
     let p = both (begins_other (form ∷ forms)) _ is in

@@ -1,5 +1,6 @@
 -- Written fields, numbers and lines are read back, whatever comes after them.
-use Rattle.text_lines.proofs.Common.{or-true, ◌≡◌, ℕ, zero, suc, ◌^◌, ◌<◌, ◌≤◌, List, [], ◌∷◌, ◌++◌, length, Bool, true, false}
+use Rattle.text_lines.proofs.Common.{or-true, ◌≡◌, ℕ, zero, suc, ◌^◌, ◌<◌, ◌≤◌, List, [], ◌∷◌, ◌++◌, length, Bool}
+use Rattle.text_lines.proofs.Common.{true, false}
 use Rattle.text_lines.proofs.Common.{not, nat_lt, nat_le, nat_eq, arith, ap, ◌∙◌, refl, Ok, ◌==◌, decimal}
 use Rattle.text_lines.proofs.Common.{is_ascii_digit, AllByRecursion, list_all, digits_value, get_or, nat_tests}
 use Rattle.text_lines.proofs.Common.{list_all-append, slice_split_at, slice_split_none, numerals_by_value}
@@ -25,7 +26,8 @@ abbrev pub IsField : List ℕ → Type 0
 IsField bytes = list_all is_inner bytes ≡ true
 
 -- a test of bytes implies a weaker one
-each_passes : (p q : ℕ → Bool) → ((b : ℕ) → p b ≡ true → q b ≡ true) → (bytes : List ℕ) → list_all p bytes ≡ true → list_all q bytes ≡ true
+each_passes : (p q : ℕ → Bool) → ((b : ℕ) → p b ≡ true → q b ≡ true) → (bytes : List ℕ) → list_all p bytes ≡ true
+    → list_all q bytes ≡ true
 each_passes p q weaker bytes all =
     list_all-from_AllPass q bytes (All-weaker (λ b. p b ≡ true) (λ b. q b ≡ true) weaker bytes (AllPass-from_list_all p bytes all))
 
@@ -33,7 +35,8 @@ no_space : (bytes : List ℕ) → IsField bytes → All (λ b. is_space b ≡ fa
 no_space bytes one =
     All-weaker (λ b. is_inner b ≡ true) (λ b. is_space b ≡ false) (λ b inner. grind (arith, nat_tests)) bytes (AllPass-from_list_all is_inner bytes one)
 
-fields_of_spaced : (f : List ℕ) (fs : List (List ℕ)) → IsField f → AllByRecursion IsField fs → fields_of (spaced (f ∷ fs)) ≡ f ∷ fs
+fields_of_spaced : (f : List ℕ) (fs : List (List ℕ)) → IsField f → AllByRecursion IsField fs
+    → fields_of (spaced (f ∷ fs)) ≡ f ∷ fs
 fields_of_spaced f [] one all = slice_split_none is_space f (no_space f one)
 fields_of_spaced f (g ∷ gs) one all =
     slice_split_at is_space f 32 (spaced (g ∷ gs)) (no_space f one) refl ∙ ap (λ (r : List (List ℕ)). f ∷ r) (fields_of_spaced g gs all.0 all.1)
@@ -42,7 +45,8 @@ fields_of_spaced f (g ∷ gs) one all =
 pub field_is_clean : (bytes : List ℕ) → IsField bytes → has_no_line_feed bytes ≡ true
 field_is_clean bytes one = each_passes is_inner (λ b. not (is_line_feed b)) (λ b inner. grind (arith, nat_tests)) bytes one
 
-fields_are_clean : (f : List ℕ) (fs : List (List ℕ)) → IsField f → AllByRecursion IsField fs → has_no_line_feed (spaced (f ∷ fs)) ≡ true
+fields_are_clean : (f : List ℕ) (fs : List (List ℕ)) → IsField f → AllByRecursion IsField fs
+    → has_no_line_feed (spaced (f ∷ fs)) ≡ true
 fields_are_clean f [] one all = field_is_clean f one
 fields_are_clean f (g ∷ gs) one all =
     list_all-append (λ b. not (is_line_feed b)) f (32 ∷ spaced (g ∷ gs)) ∙ rw (field_is_clean f one, fields_are_clean g gs all.0 all.1) refl
@@ -76,7 +80,8 @@ number_read n greatest v within small =
     rw (is_number_decimal v few, value_decimal v few, ok) refl
 
 -- the digits of a number in a range are read as that number
-pub between_read : (n least greatest v : ℕ) → least ≤ v → v ≤ greatest → greatest < 2 ^ 64 → number_between n least greatest (decimal v) ≡ Ok v
+pub between_read : (n least greatest v : ℕ) → least ≤ v → v ≤ greatest → greatest < 2 ^ 64
+    → number_between n least greatest (decimal v) ≡ Ok v
 between_read n least greatest v more within small =
     let enough : nat_le least v ≡ true = grind (arith, nat_tests, more) in
     rw (number_read n greatest v within small, enough) refl
@@ -96,7 +101,8 @@ pub record IsLineOf (fields : List (List ℕ)) : Type 0 where
   pub other : begins_as_end (spaced fields) ≡ false
 
 -- fields without spaces and line feeds are a line
-pub line_of_fields : (f : List ℕ) (fs : List (List ℕ)) → IsField f → AllByRecursion IsField fs → length (spaced (f ∷ fs)) ≤ 80
+pub line_of_fields : (f : List ℕ) (fs : List (List ℕ)) → IsField f → AllByRecursion IsField fs
+    → length (spaced (f ∷ fs)) ≤ 80
     → begins_as_end (spaced (f ∷ fs)) ≡ false → IsLineOf (f ∷ fs)
 line_of_fields f fs one all short other = record {
   part = record { one = fields_are_clean f fs one all; short = short };
@@ -105,7 +111,8 @@ line_of_fields f fs one all short other = record {
 }
 
 -- a line that begins with a digit isn't the last one
-pub digits_begin_other : (ds rest : List ℕ) → 0 < length ds → list_all is_ascii_digit ds ≡ true → begins_as_end (ds ++ rest) ≡ false
+pub digits_begin_other : (ds rest : List ℕ) → 0 < length ds → list_all is_ascii_digit ds ≡ true
+    → begins_as_end (ds ++ rest) ≡ false
 digits_begin_other [] rest some all = absurd (omega (arith, some))
 digits_begin_other (d ∷ ds) rest some all =
     let p = both (is_ascii_digit d) _ all in

@@ -1,8 +1,10 @@
 -- Courses in which the same values come in and the same operations happen have the same lives, violations and free
 -- gaps.
-use Rattle.value_match.proofs.Common.{[], Course, CoversFrom, Dequeue, dequeue_call, dequeue_of, Did, DequeueEmpty, Enqueue}
+use Rattle.value_match.proofs.Common.{[], Course, CoversFrom, Dequeue, dequeue_call, dequeue_of, Did, DequeueEmpty}
+use Rattle.value_match.proofs.Common.{Enqueue}
 use Rattle.value_match.proofs.Common.{fresh, inl, inr, IsFreshViolation, IsLife, Life, List, MatchOption}
-use Rattle.value_match.proofs.Common.{NoFreshViolation, None, NoneDid, EnqueueFailed, Operation, OpKind, Option, repeat, Some, ℕ}
+use Rattle.value_match.proofs.Common.{NoFreshViolation, None, NoneDid, EnqueueFailed, Operation, OpKind, Option}
+use Rattle.value_match.proofs.Common.{repeat, Some, ℕ}
 use Rattle.value_match.proofs.Common.{◌∷◌, ◌≢◌}
 use Rattle.std.specs.Prelude.{Bool, false, MatchBool, nat_lt, true}
 use Rattle.value_match.specs.Choice.{IsChosenCoverFrom, IsChosenFullViolation}
@@ -14,7 +16,8 @@ use Rattle.value_match.specs.Violations.{NoOrderViolation, NoRepeatViolation, or
 -- each fact about the first course that definitions use holds of the second
 pub record Carries (c d : Course) : Type 0 where
   pub enters : (enq : Operation) (v : ℕ) → c.Enters enq v → d.Enters enq v
-  pub did : (o : Operation) (kind : OpKind) → ((v : ℕ) → kind ≢ Enqueue v) → Did c.operations o kind → Did d.operations o kind
+  pub did : (o : Operation) (kind : OpKind) → ((v : ℕ) → kind ≢ Enqueue v) → Did c.operations o kind
+      → Did d.operations o kind
 
 -- each course carries over to the other
 pub record Agree (c d : Course) : Type 0 where
@@ -24,7 +27,8 @@ pub record Agree (c d : Course) : Type 0 where
 pub agree_back : (c d : Course) → Agree c d → Agree d c
 agree_back c d agree = record { there = agree.back; back = agree.there }
 
-none_did : (c d : Course) (kind : OpKind) → Carries d c → ((v : ℕ) → kind ≢ Enqueue v) → NoneDid c.operations kind → NoneDid d.operations kind
+none_did : (c d : Course) (kind : OpKind) → Carries d c → ((v : ℕ) → kind ≢ Enqueue v) → NoneDid c.operations kind
+    → NoneDid d.operations kind
 none_did c d kind back other none o among is = let did = back.did o kind other (among, is) in none o did.0 did.1
 
 or_else : (A B C : Type 0) (test : Bool) → (B → C) → MatchBool test A B → MatchBool test A C
@@ -32,7 +36,8 @@ or_else A B C true f a = a
 or_else A B C false f b = f b
 
 module _ (c d : Course) (agree : Agree c d) where
-  ended : (v : ℕ) (dequeue : Option Operation) → MatchOption dequeue (NoneDid c.operations (Dequeue v)) (λ o. Did c.operations o (Dequeue v))
+  ended : (v : ℕ) (dequeue : Option Operation)
+      → MatchOption dequeue (NoneDid c.operations (Dequeue v)) (λ o. Did c.operations o (Dequeue v))
       → MatchOption dequeue (NoneDid d.operations (Dequeue v)) (λ o. Did d.operations o (Dequeue v))
   ended v None none = none_did c d (Dequeue v) agree.back (λ w is. cc) none
   ended v (Some o) did = agree.there.did o (Dequeue v) (λ w is. cc) did
@@ -56,7 +61,8 @@ module _ (c d : Course) (agree : Agree c d) where
     ];
   }
 
-  pub repeat_of : (enq first second : Operation) → IsRepeatViolation c enq first second → IsRepeatViolation d enq first second
+  pub repeat_of : (enq first second : Operation) → IsRepeatViolation c enq first second
+      → IsRepeatViolation d enq first second
   repeat_of enq first second is = record {
     value = is.value;
     enqueues = agree.there.enters enq is.value is.enqueues;
@@ -68,13 +74,15 @@ module _ (c d : Course) (agree : Agree c d) where
   pub order_of : (a b : Life) → IsOrderViolation c a b → IsOrderViolation d a b
   order_of a b is = record { is_a = life_of a is.is_a; is_b = life_of b is.is_b; is_dequeued = is.is_dequeued; overtakes = is.overtakes }
 
-  pub covers_of : (empty : Operation) (frontier : ℕ) (cover : List Life) → CoversFrom c empty frontier cover → CoversFrom d empty frontier cover
+  pub covers_of : (empty : Operation) (frontier : ℕ) (cover : List Life) → CoversFrom c empty frontier cover
+      → CoversFrom d empty frontier cover
   covers_of empty frontier [] covers = covers
   covers_of empty frontier (life ∷ []) covers = (life_of life covers.0, covers.1, covers.2)
   covers_of empty frontier (life ∷ next ∷ rest) covers =
       (life_of life covers.0, covers.1, covers.2, covers_of empty (dequeue_call life) (next ∷ rest) covers.3)
 
-  pub witness_of : (empty : Operation) (cover : List Life) → IsWitnessViolation c empty cover → IsWitnessViolation d empty cover
+  pub witness_of : (empty : Operation) (cover : List Life) → IsWitnessViolation c empty cover
+      → IsWitnessViolation d empty cover
   witness_of empty cover is = record {
     answers_empty = agree.there.did empty DequeueEmpty (λ w same. cc) is.answers_empty;
     covers = covers_of empty empty.call cover is.covers;
@@ -130,7 +138,8 @@ module _ (c d : Course) (agree : Agree c d) where
   cover_of empty frontier (life ∷ rest) is =
       (next_of frontier life is.0, or_else _ _ _ (nat_lt empty.ret (dequeue_call life)) (cover_of empty (dequeue_call life) rest) is.1)
 
-  pub chosen_witness_of : (empty : Operation) (cover : List Life) → IsChosenWitness c empty cover → IsChosenWitness d empty cover
+  pub chosen_witness_of : (empty : Operation) (cover : List Life) → IsChosenWitness c empty cover
+      → IsChosenWitness d empty cover
   chosen_witness_of empty cover is = record {
     answers_empty = agree.there.did empty DequeueEmpty (λ w same. cc) is.answers_empty;
     is_covered = covered_of empty is.is_covered;

@@ -30,7 +30,8 @@ module _ (wanted : BTreeSet ℕ) (operations : List Operation) (i : ℕ) (o : Op
   }
 
   -- the operation is added with its place
-  pub others_more : (w : ℕ) → enqueued_value o.kind ≡ Some w → MetOthers wanted operations (i + 1) (calls ++ record { value = w; place = i } ∷ [])
+  pub others_more : (w : ℕ) → enqueued_value o.kind ≡ Some w
+      → MetOthers wanted operations (i + 1) (calls ++ record { value = w; place = i } ∷ [])
   others_more w called = record {
     are_calls = All-push (IsCall operations) calls (record { value = w; place = i }) met.are_calls (o, here, called);
     has_all = λ v is_wanted none_of.
@@ -41,7 +42,8 @@ module _ (wanted : BTreeSet ℕ) (operations : List Operation) (i : ℕ) (o : Op
   }
 
 -- all calls of the wanted values, sorted by value
-pub others_sorted : (wanted : BTreeSet ℕ) (operations : List Operation) (n : ℕ) (calls sorted : List Call) → length operations ≤ n
+pub others_sorted : (wanted : BTreeSet ℕ) (operations : List Operation) (n : ℕ) (calls sorted : List Call)
+    → length operations ≤ n
     → MetOthers wanted operations n calls → IsPermutation calls sorted
     → IsNonDecreasingBy (λ call. call.value) sorted → HoldsOthers wanted operations sorted
 others_sorted wanted operations n calls sorted all met moved rises = record {
@@ -61,7 +63,8 @@ near_wider wanted more operations (Dequeue v) None wider near = wider v near
 near_wider wanted more operations _ _ wider near = near
 
 -- near sources of operations stay near when one more value is wanted
-pub wants_more : (wanted more : BTreeSet ℕ) (w : ℕ) (operations : List Operation) (from to : ℕ) (sources : List (Option ℕ))
+pub wants_more : (wanted more : BTreeSet ℕ) (w : ℕ) (operations : List Operation) (from to : ℕ)
+    (sources : List (Option ℕ))
     → ((v : ℕ) → contains nat_cmp more v ≡ cond (is_eq (nat_cmp w v)) true (contains nat_cmp wanted v))
     → HoldsNear wanted operations from to sources → HoldsNear more operations from to sources
 wants_more wanted more w operations from to sources adds near = record {
@@ -73,24 +76,28 @@ wants_more wanted more w operations from to sources adds near = record {
     wider v is = adds v ∙ rw is (elim (cases_Bool (is_eq (nat_cmp w v))) [ inl here ↦ rw here refl | inr other ↦ rw other refl ])
 
 -- the added value is wanted
-pub is_wanted : (wanted more : BTreeSet ℕ) (w : ℕ) → ((v : ℕ) → contains nat_cmp more v ≡ cond (is_eq (nat_cmp w v)) true (contains nat_cmp wanted v))
+pub is_wanted : (wanted more : BTreeSet ℕ) (w : ℕ)
+    → ((v : ℕ) → contains nat_cmp more v ≡ cond (is_eq (nat_cmp w v)) true (contains nat_cmp wanted v))
     → contains nat_cmp more w ≡ true
 is_wanted wanted more w adds =
     adds w ∙ ap (λ b. cond b true (contains nat_cmp wanted w)) (is_eq-nat_cmp w w ∙ eq-eqb w w refl)
 
 -- an operation that is no dequeue has no source
-pub no_source : (operations : List Operation) (kind : OpKind) → ((v : ℕ) → ¬ (kind ≡ Dequeue v)) → IsSourceOf operations kind None
+pub no_source : (operations : List Operation) (kind : OpKind) → ((v : ℕ) → ¬ (kind ≡ Dequeue v))
+    → IsSourceOf operations kind None
 no_source operations (Dequeue v) other = absurd (other v refl)
 no_source operations _ other = refl
 
 -- an operation that is no dequeue has no near source
-pub no_near_source : (wanted : BTreeSet ℕ) (operations : List Operation) (kind : OpKind) → ((v : ℕ) → ¬ (kind ≡ Dequeue v))
+pub no_near_source : (wanted : BTreeSet ℕ) (operations : List Operation) (kind : OpKind)
+    → ((v : ℕ) → ¬ (kind ≡ Dequeue v))
     → IsNearSource wanted operations kind None
 no_near_source wanted operations (Dequeue v) other = absurd (other v refl)
 no_near_source wanted operations _ other = refl
 
 -- one more operation, with its near source
-pub near_push : (wanted : BTreeSet ℕ) (operations : List Operation) (from n : ℕ) (o : Operation) (sources : List (Option ℕ)) (source : Option ℕ)
+pub near_push : (wanted : BTreeSet ℕ) (operations : List Operation) (from n : ℕ) (o : Operation)
+    (sources : List (Option ℕ)) (source : Option ℕ)
     → IsAt operations n o → IsNearSource wanted operations o.kind source → HoldsNear wanted operations from n sources
     → HoldsNear wanted operations from (n + 1) (sources ++ source ∷ [])
 near_push wanted operations from n o sources source here is known = record {
@@ -107,31 +114,38 @@ near_push wanted operations from n o sources source here is known = record {
 }
 
 -- the call is one of the operations
-pub call_within : (operations : List Operation) (v place : ℕ) → IsCallPlace operations v (Some place) → place < length operations
+pub call_within : (operations : List Operation) (v place : ℕ) → IsCallPlace operations v (Some place)
+    → place < length operations
 call_within operations v place (o, here, called) = slice_get_within operations place o here
 
 -- ---- the remaining sources are found
 
 -- the first n sources from one place on are found, and the values of the others are wanted
-pub record FindsOthers (operations : List Operation) (from n : ℕ) (sources : List (Option ℕ)) (calls : List Call) : Type 0 where
+pub record FindsOthers (operations : List Operation) (from n : ℕ) (sources : List (Option ℕ))
+    (calls : List Call) : Type 0 where
   pub wanted : BTreeSet ℕ
   pub one_each : from + length sources ≡ length operations
-  pub found : (i : ℕ) (o : Operation) → from + i < n → IsAt operations (from + i) o → IsSourceOf operations o.kind (get_or sources i None)
-  pub near : (i : ℕ) (o : Operation) → n ≤ from + i → IsAt operations (from + i) o → IsNearSource wanted operations o.kind (get_or sources i None)
+  pub found : (i : ℕ) (o : Operation) → from + i < n → IsAt operations (from + i) o
+      → IsSourceOf operations o.kind (get_or sources i None)
+  pub near : (i : ℕ) (o : Operation) → n ≤ from + i → IsAt operations (from + i) o
+      → IsNearSource wanted operations o.kind (get_or sources i None)
   pub others : HoldsOthers wanted operations calls
 
 -- a source that was found near
-pub near_source : (wanted : BTreeSet ℕ) (operations : List Operation) (kind : OpKind) (source : Option ℕ) → IsNearSource wanted operations kind source
+pub near_source : (wanted : BTreeSet ℕ) (operations : List Operation) (kind : OpKind) (source : Option ℕ)
+    → IsNearSource wanted operations kind source
     → ¬ (source ≡ None) → IsSourceOf operations kind source
 near_source wanted operations (Dequeue v) None near some = absurd (some refl)
 near_source wanted operations _ _ near some = near
 
 -- an operation after a place, by its index among those from there on
-pub behind_at : (operations : List Operation) (from n : ℕ) (o : Operation) → from ≤ n → IsAt operations n o → IsAt operations (from + (n - from)) o
+pub behind_at : (operations : List Operation) (from n : ℕ) (o : Operation) → from ≤ n → IsAt operations n o
+    → IsAt operations (from + (n - from)) o
 behind_at operations from n o late here = let there : from + (n - from) ≡ n = omega arith in rw there here
 
 -- one more source is found
-pub found_more : (operations : List Operation) (from n : ℕ) (o : Operation) (sources : List (Option ℕ)) (source : Option ℕ) (calls : List Call)
+pub found_more : (operations : List Operation) (from n : ℕ) (o : Operation) (sources : List (Option ℕ))
+    (source : Option ℕ) (calls : List Call)
     → from ≤ n → IsAt operations n o → IsSourceOf operations o.kind source → FindsOthers operations from n sources calls
     → FindsOthers operations from (n + 1) (set sources (n - from) source) calls
 found_more operations from n o sources source calls late here is known = record {
@@ -152,7 +166,8 @@ found_more operations from n o sources source calls late here is known = record 
     within = let inside = slice_get_within operations n o here in omega (arith, inside, known.one_each)
 
 -- a source stays as it was
-pub found_here : (operations : List Operation) (from n : ℕ) (o : Operation) (sources : List (Option ℕ)) (calls : List Call) → from ≤ n
+pub found_here : (operations : List Operation) (from n : ℕ) (o : Operation) (sources : List (Option ℕ))
+    (calls : List Call) → from ≤ n
     → IsAt operations n o → IsSourceOf operations o.kind (get_or sources (n - from) None) → FindsOthers operations from n sources calls
     → FindsOthers operations from (n + 1) sources calls
 found_here operations from n o sources calls late here is known = record {
@@ -170,14 +185,16 @@ found_here operations from n o sources calls late here is known = record {
 }
 
 -- the value of a dequeue has no call if no call of the wanted values is of it
-pub found_nowhere : (wanted : BTreeSet ℕ) (operations : List Operation) (o : Operation) (v : ℕ) (source : Option ℕ) (calls : List Call)
+pub found_nowhere : (wanted : BTreeSet ℕ) (operations : List Operation) (o : Operation) (v : ℕ) (source : Option ℕ)
+    (calls : List Call)
     → o.kind ≡ Dequeue v → source ≡ None → HoldsOthers wanted operations calls → NoneOf calls v → IsNearSource wanted operations o.kind source
     → IsSourceOf operations o.kind source
 found_nowhere wanted operations o v source calls is none others none_of near =
     rw (is, none) (others.has_all v (rw (is, none) at near) none_of)
 
 -- the sources of all operations are found
-pub found_all : (operations : List Operation) (from n : ℕ) (sources : List (Option ℕ)) (calls : List Call) → length operations ≤ n
+pub found_all : (operations : List Operation) (from n : ℕ) (sources : List (Option ℕ)) (calls : List Call)
+    → length operations ≤ n
     → FindsOthers operations from n sources calls → HoldsSources operations from sources
 found_all operations from n sources calls all known = record {
   one_each = known.one_each;
@@ -185,7 +202,8 @@ found_all operations from n sources calls all known = record {
 }
 
 -- if no value is wanted, all sources are near
-pub none_wanted : (wanted : BTreeSet ℕ) (operations : List Operation) (from : ℕ) (sources : List (Option ℕ)) → btree_set_len wanted ≡ 0
+pub none_wanted : (wanted : BTreeSet ℕ) (operations : List Operation) (from : ℕ) (sources : List (Option ℕ))
+    → btree_set_len wanted ≡ 0
     → HoldsNear wanted operations from (length operations) sources → HoldsSources operations from sources
 none_wanted wanted operations from sources none near = record {
   one_each = near.one_each;
@@ -197,12 +215,14 @@ none_wanted wanted operations from sources none near = record {
     any_of_none test [] none = refl
     any_of_none test (k ∷ keys) none = absurd (omega (arith, none))
 
-    settled : (kind : OpKind) (source : Option ℕ) → IsNearSource wanted operations kind source → IsSourceOf operations kind source
+    settled : (kind : OpKind) (source : Option ℕ) → IsNearSource wanted operations kind source
+        → IsSourceOf operations kind source
     settled (Dequeue v) None is_wanted = absurd (false≢true (sym (any_of_none _ (keys wanted) none) ∙ is_wanted))
     settled _ _ is = is
 
 -- the source of an operation after a place
-pub source_at : (operations : List Operation) (from n : ℕ) (o : Operation) (sources : List (Option ℕ)) → HoldsSources operations from sources
+pub source_at : (operations : List Operation) (from n : ℕ) (o : Operation) (sources : List (Option ℕ))
+    → HoldsSources operations from sources
     → from ≤ n → IsAt operations n o → IsSourceOf operations o.kind (get_or sources (n - from) None)
 source_at operations from n o sources holds late here = holds.each (n - from) o (behind_at operations from n o late here)
 

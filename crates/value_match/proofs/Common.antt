@@ -40,7 +40,8 @@ pub use Rattle.history_merge.specs.Inner.Timeline.{timeline}
 pub use Rattle.history_merge.specs.Legal.{ArePlacesOf}
 pub use Rattle.history_merge.specs.Operations.{Did, enqueued_value, IsAt, NoneDid, operations_of}
 pub use Rattle.history_merge.specs.declared.operation.OpKind.{OpKind}
-pub use Rattle.history_merge.specs.declared.operation.OpKind.TheVariants.{Dequeue, DequeueEmpty, Enqueue, EnqueueFailed}
+pub use Rattle.history_merge.specs.declared.operation.OpKind.TheVariants.{Dequeue, DequeueEmpty, Enqueue}
+pub use Rattle.history_merge.specs.declared.operation.OpKind.TheVariants.{EnqueueFailed}
 pub use Rattle.history_merge.specs.declared.operation.Operation.{Operation}
 pub use Rattle.value_match.specs.Inner.Accepted.{HasPlaces, HoldsLives, maybe_operation_at, operation_at, PlacedLife}
 pub use Rattle.value_match.specs.Inner.Accepted.{history_value, value_at}

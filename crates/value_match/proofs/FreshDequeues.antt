@@ -1,9 +1,11 @@
 -- Phantom dequeues, recognised by the places of the calls.
 use Rattle.value_match.proofs.Common.{ap, AreChosenFresh, AreComplete, arith, Bool, CallsFor, cases_lt, cond, Contains}
-use Rattle.value_match.proofs.Common.{contains_at, Dequeue, each_more, Enqueue, enqueued_value, false, false≢true, FreshPlaces}
+use Rattle.value_match.proofs.Common.{contains_at, Dequeue, each_more, Enqueue, enqueued_value, false, false≢true}
+use Rattle.value_match.proofs.Common.{FreshPlaces}
 use Rattle.value_match.proofs.Common.{IfSome, inl, inr, is_failed, IsAt, IsCallPlace, IsEnqueuedTooLate, IsFreshFrom}
 use Rattle.value_match.proofs.Common.{IsFreshViolation, IsMaybeAt, IsSourceOf, IsTrue, le-ltb, length, List, lt-ltb}
-use Rattle.value_match.proofs.Common.{ltb-true, MatchOption, nat_lt, NoFreshViolation, None, NoneFresh, EnqueueFailed, on}
+use Rattle.value_match.proofs.Common.{ltb-true, MatchOption, nat_lt, NoFreshViolation, None, NoneFresh, EnqueueFailed}
+use Rattle.value_match.proofs.Common.{on}
 use Rattle.value_match.proofs.Common.{one_at, Operation, OpKind, Option, place_of, refl, return_at, same_value_call}
 use Rattle.value_match.proofs.Common.{slice_get_within, Some, subst, sym, true, ℕ, ◌+◌, ◌<◌, ◌||◌, ◌↔◌, ◌≡◌, ◌≤◌, ◌⊎◌}
 use Rattle.value_match.proofs.HistoryPlaces.{fresh_dequeues}
@@ -15,7 +17,8 @@ calls_for (EnqueueFailed w) v h = let same : w ≡ v = cc in inr (ap EnqueueFail
 calls_for _ v h = cc
 
 -- a dequeue is a phantom dequeue if the call for its value failed or came after its return
-pub fresh_by_call : (operations : List Operation) (i p : ℕ) (o call : Operation) (v : ℕ) → IsAt operations i o → o.kind ≡ Dequeue v
+pub fresh_by_call : (operations : List Operation) (i p : ℕ) (o call : Operation) (v : ℕ) → IsAt operations i o
+    → o.kind ≡ Dequeue v
     → IsAt operations p call → enqueued_value call.kind ≡ Some v
     → IsTrue (is_failed call || nat_lt o.ret call.call) ↔ IsFreshFrom operations (Some p) o
 fresh_by_call operations i p o call v here is there calls = (λ soon. (Some call, there, late soon), only)
@@ -38,7 +41,8 @@ fresh_by_call operations i p o call v here is there calls = (λ soon. (Some call
     ]
 
 -- a dequeue without a source is a phantom dequeue
-pub fresh_at_none : (operations : List Operation) (i : ℕ) (o x : Operation) (v : ℕ) → IsAt operations i o → o.kind ≡ Dequeue v
+pub fresh_at_none : (operations : List Operation) (i : ℕ) (o x : Operation) (v : ℕ) → IsAt operations i o
+    → o.kind ≡ Dequeue v
     → IsCallPlace operations v None → IsAt operations i x → IsTrue true ↔ IsFreshFrom operations None x
 fresh_at_none operations i o x v here is none there =
     let fresh : IsFreshViolation (on operations) o None = record {
@@ -50,14 +54,17 @@ fresh_at_none operations i o x v here is none there =
     rw (one_at operations i x o there here) (λ _. (None, tt, fresh), λ _. refl)
 
 -- a dequeue with a source is a phantom dequeue if and only if the call there failed or came after its return
-pub fresh_at_some : (operations : List Operation) (i p : ℕ) (o x : Operation) (v : ℕ) (soon : Bool) → IsAt operations i o → o.kind ≡ Dequeue v
-    → IsCallPlace operations v (Some p) → ((call : Operation) → IsAt operations p call → soon ≡ (is_failed call || nat_lt o.ret call.call))
+pub fresh_at_some : (operations : List Operation) (i p : ℕ) (o x : Operation) (v : ℕ) (soon : Bool)
+    → IsAt operations i o → o.kind ≡ Dequeue v
+    → IsCallPlace operations v (Some p)
+    → ((call : Operation) → IsAt operations p call → soon ≡ (is_failed call || nat_lt o.ret call.call))
     → IsAt operations i x → IsTrue soon ↔ IsFreshFrom operations (Some p) x
 fresh_at_some operations i p o x v soon here is call tells there =
     rw (one_at operations i x o there here, tells call.0 call.1) (fresh_by_call operations i p o call.0 v here is call.1 call.2)
 
 -- the call that a violation names is the source
-pub named_by_source : (operations : List Operation) (o : Operation) (enq : Option Operation) (source : Option ℕ) → AreComplete operations
+pub named_by_source : (operations : List Operation) (o : Operation) (enq : Option Operation) (source : Option ℕ)
+    → AreComplete operations
     → IsSourceOf operations o.kind source
     → IsFreshViolation (on operations) o enq → IsMaybeAt operations source enq
 named_by_source operations o None source complete from violates = named source (subst (λ kind. IsSourceOf operations kind source) violates.dequeues.1 from)
@@ -81,14 +88,16 @@ named_by_source operations o (Some e) source complete from violates = named sour
         subst (IsAt operations p) same there
 
 -- an operation that is no dequeue is no phantom dequeue
-pub no_dequeue : (operations : List Operation) (i : ℕ) (o : Operation) → IsAt operations i o → ((v : ℕ) → ¬ (o.kind ≡ Dequeue v)) → NoneFresh operations i
+pub no_dequeue : (operations : List Operation) (i : ℕ) (o : Operation) → IsAt operations i o
+    → ((v : ℕ) → ¬ (o.kind ≡ Dequeue v)) → NoneFresh operations i
     → NoneFresh operations (i + 1)
 no_dequeue operations i o here other none =
     each_more (λ k x. (enq : Option Operation) → ¬ (IsFreshViolation (on operations) x enq)) operations i o here
     (λ enq violates. let dequeue = fresh_dequeues operations o enq violates in other dequeue.0 dequeue.1) none
 
 -- a dequeue after the call for its value is no phantom dequeue
-pub in_time_more : (operations : List Operation) (i p : ℕ) (o : Operation) (v : ℕ) → AreComplete operations → IsAt operations i o
+pub in_time_more : (operations : List Operation) (i p : ℕ) (o : Operation) (v : ℕ) → AreComplete operations
+    → IsAt operations i o
     → o.kind ≡ Dequeue v → IsCallPlace operations v (Some p)
     → ((call : Operation) → IsAt operations p call → false ≡ (is_failed call || nat_lt o.ret call.call))
     → NoneFresh operations i → NoneFresh operations (i + 1)
@@ -100,7 +109,8 @@ in_time_more operations i p o v complete here is call tells none =
     false≢true ((fresh_at_some operations i p o o v false here is call tells here).1 from)) none
 
 -- a phantom dequeue is one of the operations
-pub violates_among : (operations : List Operation) (o : Operation) (enq : Option Operation) → IsFreshViolation (on operations) o enq → Contains operations o
+pub violates_among : (operations : List Operation) (o : Operation) (enq : Option Operation)
+    → IsFreshViolation (on operations) o enq → Contains operations o
 violates_among operations o None violates = violates.dequeues.0
 violates_among operations o (Some e) violates = violates.dequeues.0
 
@@ -112,7 +122,8 @@ IsFirstFresh operations n (Some found) =
     × ((k : ℕ) (o : Operation) → k < n → IsAt operations k o → (enq : Option Operation) → IsFreshViolation (on operations) o enq → deq.ret ≤ o.ret)
 
 -- at the end there is no phantom dequeue, or the one found is the chosen one
-pub first_of_all : (operations : List Operation) (n : ℕ) (first : Option FreshPlaces) → length operations ≤ n → IsFirstFresh operations n first
+pub first_of_all : (operations : List Operation) (n : ℕ) (first : Option FreshPlaces) → length operations ≤ n
+    → IsFirstFresh operations n first
     → MatchOption first (NoFreshViolation (on operations)) (AreChosenFresh operations)
 first_of_all operations n None all none = λ deq enq violates.
     let at = place_of operations deq (violates_among operations deq enq violates) in
@@ -131,7 +142,8 @@ first_of_all operations n (Some found) all (deq, at, (enq, named, violates), bef
 )
 
 -- the phantom dequeue found so far is one of the operations
-pub first_in_range : (operations : List Operation) (n : ℕ) (first : Option FreshPlaces) → IsFirstFresh operations n first
+pub first_in_range : (operations : List Operation) (n : ℕ) (first : Option FreshPlaces)
+    → IsFirstFresh operations n first
     → IfSome first (λ f. f.deq < length operations)
 first_in_range operations n None found = tt
 first_in_range operations n (Some f) found = slice_get_within operations f.deq found.0 found.1
@@ -160,7 +172,8 @@ module _ (operations : List Operation) (i : ℕ) (o : Operation) (source : Optio
   -- a phantom dequeue that returns sooner becomes the first
   pub first_more : (first : Option FreshPlaces) (other sooner : FreshPlaces) → other.deq ≡ i → other.enq ≡ source
       → IsFreshFrom operations source o → (first ≡ None → sooner ≡ other)
-      → IfSome first (λ f. sooner ≡ cond (nat_lt (return_at operations f.deq) (return_at operations other.deq)) f other)
+      → IfSome first (λ f. sooner
+      ≡ cond (nat_lt (return_at operations f.deq) (return_at operations other.deq)) f other)
       → IsFirstFresh operations i first → IsFirstFresh operations (i + 1) (Some sooner)
   first_more first other sooner deq_is enq_is violates none some found = pick first none some found
     where
@@ -172,7 +185,8 @@ module _ (operations : List Operation) (i : ℕ) (o : Operation) (source : Optio
 
       -- a phantom dequeue that returns no later than those so far
       soonest : (f : FreshPlaces) (deq : Operation) → IsAt operations f.deq deq → IsFreshFrom operations f.enq deq
-          → ((k : ℕ) (x : Operation) → k < i → IsAt operations k x → (enq : Option Operation) → IsFreshViolation (on operations) x enq → deq.ret ≤ x.ret)
+          → ((k : ℕ) (x : Operation) → k < i → IsAt operations k x → (enq : Option Operation)
+          → IsFreshViolation (on operations) x enq → deq.ret ≤ x.ret)
           → deq.ret ≤ o.ret → IsFirstFresh operations (i + 1) (Some f)
       soonest f deq at from before last = (
         deq,
@@ -182,7 +196,8 @@ module _ (operations : List Operation) (i : ℕ) (o : Operation) (source : Optio
       )
 
       pick : (first : Option FreshPlaces) → (first ≡ None → sooner ≡ other)
-          → IfSome first (λ f. sooner ≡ cond (nat_lt (return_at operations f.deq) (return_at operations other.deq)) f other)
+          → IfSome first (λ f. sooner
+          ≡ cond (nat_lt (return_at operations f.deq) (return_at operations other.deq)) f other)
           → IsFirstFresh operations i first → IsFirstFresh operations (i + 1) (Some sooner)
       pick None none some found = rw (none refl) (soonest other o here' violates' (λ k x below at enq is'. absurd (found k x below at enq is')) (omega arith))
       pick (Some f) none some (deq, at, from, before) =

@@ -1,7 +1,8 @@
 -- Values sorted by their enqueues' returns, and the one that stays longest in each prefix.
 use Rattle.value_match.proofs.Common.{[], All, All-from_get_or, All-get_or, All-nil, All-permutation, All-push}
 use Rattle.value_match.proofs.Common.{All-weaker, Any, ap, AreEntriesOf, arith, below_more, cases_lt, Contains}
-use Rattle.value_match.proofs.Common.{Contains-append_left, Contains-permutation, Contains-push, DequeueEmpty, enqueue_return}
+use Rattle.value_match.proofs.Common.{Contains-append_left, Contains-permutation, Contains-push, DequeueEmpty}
+use Rattle.value_match.proofs.Common.{enqueue_return}
 use Rattle.value_match.proofs.Common.{EntersBefore, false, FindsLongest, Front, get_or, get_or-map, get_or-set_other}
 use Rattle.value_match.proofs.Common.{get_or-set_same, get_or-take, get_or_default, HasFronts, IfSome, inl, inr}
 use Rattle.value_match.proofs.Common.{IsEntryOf, IsFrontAt, IsLongerOf, IsLongestOf, IsNonDecreasingBy}
@@ -29,7 +30,8 @@ module _ (Passes : Life → Type 0) where
   abbrev StaysPast : MatchedValue → MatchedValue → Type 0
   StaysPast value other = Passes other.life → StaysAtLeast value.life other.life
 
-  alone : (seen : List MatchedValue) (x : MatchedValue) → NonePasses Passes seen → Passes x.life → IsLongestOf Passes (seen ++ x ∷ []) x
+  alone : (seen : List MatchedValue) (x : MatchedValue) → NonePasses Passes seen → Passes x.life
+      → IsLongestOf Passes (seen ++ x ∷ []) x
   alone seen x none passes = record {
     among = Contains-push seen x;
     passes = passes;
@@ -37,7 +39,8 @@ module _ (Passes : Life → Type 0) where
         (λ other not passes. absurd (not passes)) seen none) (λ _. stays_as_itself x.life);
   }
 
-  taken : (seen : List MatchedValue) (x r : MatchedValue) (found : Option MatchedValue) → FindsLongest Passes seen found → Passes x.life
+  taken : (seen : List MatchedValue) (x r : MatchedValue) (found : Option MatchedValue)
+      → FindsLongest Passes seen found → Passes x.life
       → MatchOption found (r ≡ x) (λ a. IsLongerOf a x r) → IsLongestOf Passes (seen ++ x ∷ []) r
   taken seen x r None none passes same = subst (IsLongestOf Passes (seen ++ x ∷ [])) (sym same) (alone seen x none passes)
   taken seen x r (Some a) is passes longer = record {
@@ -53,9 +56,11 @@ module _ (Passes : Life → Type 0) where
   }
 
   -- the next value passes
-  pub longest_changes : (values : List MatchedValue) (i : ℕ) (x r : MatchedValue) (found : Option MatchedValue) → i < length values
+  pub longest_changes : (values : List MatchedValue) (i : ℕ) (x r : MatchedValue) (found : Option MatchedValue)
+      → i < length values
       → x ≡ get_or values i x → FindsLongest Passes (take i values) found
-      → Passes x.life → MatchOption found (r ≡ x) (λ a. IsLongerOf a x r) → FindsLongest Passes (take (i + 1) values) (Some r)
+      → Passes x.life → MatchOption found (r ≡ x) (λ a. IsLongerOf a x r)
+      → FindsLongest Passes (take (i + 1) values) (Some r)
   longest_changes values i x r found within is so_far passes longer =
       subst (λ seen. IsLongestOf Passes seen r) (sym (one_more values i x within is)) (taken (take i values) x r found so_far passes longer)
 
@@ -79,7 +84,8 @@ pub record ListsValues (values : List MatchedValue) (n : ℕ) (entries : List Fr
   pub each_once : (d : MatchedValue) → values_at values entries d ≡ take n values
 
 -- one more value is listed
-pub lists_more : (values : List MatchedValue) (n : ℕ) (x : MatchedValue) (entries : List Front) → n < length values → x ≡ get_or values n x
+pub lists_more : (values : List MatchedValue) (n : ℕ) (x : MatchedValue) (entries : List Front) → n < length values
+    → x ≡ get_or values n x
     → ListsValues values n entries → ListsValues values (n + 1) (entries ++ entry_of x n ∷ [])
 lists_more values n x entries within is known = record {
   names = All-push (IsEntryOf values) entries (entry_of x n) known.names
@@ -89,7 +95,8 @@ lists_more values n x entries within is known = record {
 }
 
 -- all values are listed
-pub all_listed : (values : List MatchedValue) (n : ℕ) (entries : List Front) → length values ≤ n → ListsValues values n entries → AreEntriesOf values entries
+pub all_listed : (values : List MatchedValue) (n : ℕ) (entries : List Front) → length values ≤ n
+    → ListsValues values n entries → AreEntriesOf values entries
 all_listed values n entries all known = record {
   names = known.names;
   each_once = λ d. subst (λ (vs : List MatchedValue). IsPermutation vs (values_at values entries d)) (known.each_once d ∙ take_all n values all)
@@ -97,7 +104,8 @@ all_listed values n entries all known = record {
 }
 
 -- the entries in another order
-pub entries_moved : (values : List MatchedValue) (listed entries : List Front) → AreEntriesOf values listed → IsPermutation listed entries
+pub entries_moved : (values : List MatchedValue) (listed entries : List Front) → AreEntriesOf values listed
+    → IsPermutation listed entries
     → AreEntriesOf values entries
 entries_moved values listed entries known moved = record {
   names = All-permutation (IsEntryOf values) listed entries moved known.names;
@@ -111,7 +119,8 @@ value_at values d None = None
 value_at values d (Some p) = Some (get_or values p d)
 
 -- the first n entries name the value that stays longest in their prefix, and the others are unchanged
-pub record HasSoFar (values : List MatchedValue) (entries : List Front) (n : ℕ) (fronts : List Front) (so_far : Option ℕ) : Type 0 where
+pub record HasSoFar (values : List MatchedValue) (entries : List Front) (n : ℕ) (fronts : List Front)
+    (so_far : Option ℕ) : Type 0 where
   pub one_each : length fronts ≡ length entries
   pub each : (i : ℕ) → i < n → (f : Front) → IsFrontAt values entries i (get_or fronts i f)
   pub others : (i : ℕ) → n ≤ i → (f : Front) → get_or fronts i f ≡ get_or entries i f
@@ -130,12 +139,14 @@ none_so_far values entries = record {
 
 longer_at : (values : List MatchedValue) (d : MatchedValue) (so_far : Option ℕ) (place p : ℕ)
     → MatchOption so_far (p ≡ place) (λ q. IsLongerOf (get_or values q d) (get_or values place d) (get_or values p d))
-    → MatchOption (value_at values d so_far) (get_or values p d ≡ get_or values place d) (λ a. IsLongerOf a (get_or values place d) (get_or values p d))
+    → MatchOption (value_at values d so_far) (get_or values p d ≡ get_or values place d)
+    (λ a. IsLongerOf a (get_or values place d) (get_or values p d))
 longer_at values d None place p same = ap (λ q. get_or values q d) same
 longer_at values d (Some q) place p longer = longer
 
 -- one more entry names its value
-pub one_more_front : (values : List MatchedValue) (entries : List Front) (n p : ℕ) (e : Front) (fronts : List Front) (so_far : Option ℕ)
+pub one_more_front : (values : List MatchedValue) (entries : List Front) (n p : ℕ) (e : Front) (fronts : List Front)
+    (so_far : Option ℕ)
     → n < length fronts → e ≡ get_or fronts n e → HasSoFar values entries n fronts so_far
     → p < length values → ((d : MatchedValue) → MatchOption so_far (p ≡ e.place)
     (λ q. IsLongerOf (get_or values q d) (get_or values e.place d) (get_or values p d)))
@@ -168,12 +179,14 @@ one_more_front values entries n p e fronts so_far inside read known within longe
     }
 
 -- all entries name their values
-pub all_fronts : (values : List MatchedValue) (entries fronts : List Front) (n : ℕ) (so_far : Option ℕ) → length fronts ≤ n
+pub all_fronts : (values : List MatchedValue) (entries fronts : List Front) (n : ℕ) (so_far : Option ℕ)
+    → length fronts ≤ n
     → HasSoFar values entries n fronts so_far → HasFronts values entries fronts
 all_fronts values entries fronts n so_far all known = record { one_each = known.one_each; each = λ i less f. known.each i (omega (arith, known.one_each)) f }
 
 -- the fronts are sorted by their enqueues' returns
-pub fronts_rise : (values : List MatchedValue) (fronts : List Front) → IsTableOf values fronts → IsNonDecreasingBy (λ f. f.enqueue_return) fronts
+pub fronts_rise : (values : List MatchedValue) (fronts : List Front) → IsTableOf values fronts
+    → IsNonDecreasingBy (λ f. f.enqueue_return) fronts
 fronts_rise values fronts table i j f le inside =
     let upper : j < length table.0 = omega (arith, table.2.one_each) in
     let lower : i < length table.0 = omega arith in
@@ -183,7 +196,8 @@ fronts_rise values fronts table i j f le inside =
     omega arith
 
 -- the value that stays longest in a prefix is one of the values
-pub longest_within : (values : List MatchedValue) (fronts : List Front) (i : ℕ) (front : Front) → IsTableOf values fronts → i < length fronts
+pub longest_within : (values : List MatchedValue) (fronts : List Front) (i : ℕ) (front : Front)
+    → IsTableOf values fronts → i < length fronts
     → front ≡ get_or fronts i front → front.place < length values
 longest_within values fronts i front table inside is = subst (λ (f : Front). f.place < length values) (sym is)
     (table.2.each i (omega (arith, table.2.one_each)) front).within
@@ -207,7 +221,8 @@ module _ (values : List MatchedValue) (fronts : List Front) (limit i : ℕ) (tab
       let yes = ltb-true (get_or fronts k nowhere).enqueue_return limit (point.0 k nowhere (omega arith) less) in
       omega (arith, yes, return_at d e k nowhere (omega arith))
 
-  enters_not : (d e : MatchedValue) (k : ℕ) → i ≤ k → k < length fronts → ¬ (EntersBefore limit (get_or (values_at values table.0 d) k e).life)
+  enters_not : (d e : MatchedValue) (k : ℕ) → i ≤ k → k < length fronts
+      → ¬ (EntersBefore limit (get_or (values_at values table.0 d) k e).life)
   enters_not d e k after inside less =
       let no = ltb-false (get_or fronts k nowhere).enqueue_return limit (point.1 k nowhere after inside) in
       omega (arith, no, less, return_at d e k nowhere inside)

@@ -2,7 +2,8 @@
 use Rattle.value_match.proofs.Common.{[], ap, ap₂, AreChosenFresh, AreChosenRepeat, AreComplete, ArePlacesOf, arith}
 use Rattle.value_match.proofs.Common.{behind, Bool, cases_Bool, cases_lt, cond, cons_option, Contains}
 use Rattle.value_match.proofs.Common.{Contains-append_cases, Contains-append_left, Contains-append_right, contains_at}
-use Rattle.value_match.proofs.Common.{course, CoversFrom, Dequeue, dequeue_call, dequeue_of, Did, DequeueEmpty, Enqueue, enqueue_at}
+use Rattle.value_match.proofs.Common.{course, CoversFrom, Dequeue, dequeue_call, dequeue_of, Did, DequeueEmpty}
+use Rattle.value_match.proofs.Common.{Enqueue, enqueue_at}
 use Rattle.value_match.proofs.Common.{enqueue_of, enqueues_from, false, filter, filter-append, filter_map}
 use Rattle.value_match.proofs.Common.{filter_map-append, find, fresh, FreshPlaces, get_or, HasPlaces, HoldsLives}
 use Rattle.value_match.proofs.Common.{HoldsPlaces, HoldsValues, initial_enqueue, initial_enqueues, initial_time, inl}
@@ -10,10 +11,12 @@ use Rattle.value_match.proofs.Common.{inr, is_dequeue_of, is_empty_answer, is_fa
 use Rattle.value_match.proofs.Common.{IsLife, IsMaybeAt, IsMaybeOperation, IsNamed, IsOperation, IsSource, later_by}
 use Rattle.value_match.proofs.Common.{le-ltb, length, length_enqueues, Life, life_from, List, lives_of}
 use Rattle.value_match.proofs.Common.{lt-ltb, ltb-false, ltb-true, map, MatchedValue, MatchOption, MAX_INITIAL}
-use Rattle.value_match.proofs.Common.{NamesChosenFresh, NamesChosenRepeat, nat_lt, None, NoneDid, EnqueueFailed, on, Operation}
+use Rattle.value_match.proofs.Common.{NamesChosenFresh, NamesChosenRepeat, nat_lt, None, NoneDid, EnqueueFailed, on}
+use Rattle.value_match.proofs.Common.{Operation}
 use Rattle.value_match.proofs.Common.{OpKind, Option, option_map, ORIGIN, Pair, place_of, PlacedLife}
 use Rattle.value_match.proofs.Common.{refl, repeat, RepeatPlaces, slice_get, slice_get-map, slice_get_within, Some}
-use Rattle.value_match.proofs.Common.{subst, suc, sym, timed, timeline, history_value, history_place, history_source, value_at}
+use Rattle.value_match.proofs.Common.{subst, suc, sym, timed, timeline, history_value, history_place, history_source}
+use Rattle.value_match.proofs.Common.{value_at}
 use Rattle.value_match.proofs.Common.{zero, ℕ, ⊤, ◌++◌, ◌+◌, ◌-◌, ◌<◌, ◌↔◌, ◌∙◌, ◌∷◌, ◌≡◌, ◌≢◌, ◌≤◌, ◌⊎◌}
 use Rattle.history_merge.proofs.Timelines.{timeline_is_complete}
 use Rattle.value_match.proofs.Agreeing.{Agree, agree_back, chosen_of, life_of, no_fresh_of, no_repeat_of}
@@ -34,13 +37,15 @@ AreLives [] = ⊤
 AreLives (life ∷ cover) = ((v : ℕ) × ((enqueue_of life).kind ≡ Enqueue v)) × MatchOption (dequeue_of life) ⊤ (λ d. (v : ℕ) × (d.kind ≡ Dequeue v)) × AreLives cover
 
 -- the dequeue of a life, if there is one, is a dequeue
-pub dequeues : (operations : List Operation) (v : ℕ) (d : Option Operation) → MatchOption d (NoneDid operations (Dequeue v)) (λ d. Did operations d (Dequeue v))
+pub dequeues : (operations : List Operation) (v : ℕ) (d : Option Operation)
+    → MatchOption d (NoneDid operations (Dequeue v)) (λ d. Did operations d (Dequeue v))
     → MatchOption d ⊤ (λ d. (v : ℕ) × (d.kind ≡ Dequeue v))
 dequeues operations v None none = tt
 dequeues operations v (Some d) did = (v, did.1)
 
 -- the values of a cover are lives
-pub covers_are_lives : (operations : List Operation) (empty : Operation) (frontier : ℕ) (cover : List Life) → CoversFrom (on operations) empty frontier cover
+pub covers_are_lives : (operations : List Operation) (empty : Operation) (frontier : ℕ) (cover : List Life)
+    → CoversFrom (on operations) empty frontier cover
     → AreLives cover
 covers_are_lives operations empty frontier [] covers = absurd covers
 covers_are_lives operations empty frontier (life ∷ []) covers =
@@ -54,11 +59,13 @@ covers_are_lives operations empty frontier (life ∷ next ∷ rest) covers = (
 -- ---- the timeline: the enqueues of the initial values, and then the operations at their times
 
 -- operations with equal parts are equal
-pub same_operation : (a b : Operation) → a.call ≡ b.call → a.ret ≡ b.ret → a.thread ≡ b.thread → a.kind ≡ b.kind → a ≡ b
+pub same_operation : (a b : Operation) → a.call ≡ b.call → a.ret ≡ b.ret → a.thread ≡ b.thread → a.kind ≡ b.kind
+    → a ≡ b
 same_operation a b call ret thread kind = λ i. record { call = call i; ret = ret i; thread = thread i; kind = kind i }
 
 -- the enqueue at a place of the initial enqueues
-at_enqueues_from : (n : ℕ) (initial : List ℕ) (j : ℕ) → slice_get (enqueues_from n initial) j ≡ option_map (enqueue_at (n + j)) (slice_get initial j)
+at_enqueues_from : (n : ℕ) (initial : List ℕ) (j : ℕ)
+    → slice_get (enqueues_from n initial) j ≡ option_map (enqueue_at (n + j)) (slice_get initial j)
 at_enqueues_from n [] j = cc
 at_enqueues_from n (v ∷ rest) zero = ap (λ o. Some o) (same_operation _ _ (omega arith) (omega arith) refl refl)
 at_enqueues_from n (v ∷ rest) (suc j) =
@@ -70,7 +77,8 @@ pub at_enqueue : (initial : List ℕ) (j : ℕ)
 at_enqueue initial j = at_enqueues_from (ORIGIN - length initial) initial j
 
 -- the value in a mapped option comes from one in the option
-pub mapped_option : {A B : Type 0} (f : A → B) (o : Option A) (y : B) → option_map f o ≡ Some y → (x : A) × (o ≡ Some x) × (f x ≡ y)
+pub mapped_option : {A B : Type 0} (f : A → B) (o : Option A) (y : B) → option_map f o ≡ Some y
+    → (x : A) × (o ≡ Some x) × (f x ≡ y)
 mapped_option f None y is = cc
 mapped_option f (Some x) y is = (x, refl, cc)
 
@@ -82,7 +90,8 @@ enqueue_place initial o among =
     let (v, stands, is) = mapped_option (initial_enqueue (length initial) at.0) (slice_get initial at.0) o (sym (at_enqueue initial at.0) ∙ at.1) in (at.0, v, stands, is)
 
 -- each such enqueue is at this place
-pub enqueue_stands : (initial : List ℕ) (j v : ℕ) → slice_get initial j ≡ Some v → Contains (initial_enqueues initial) (initial_enqueue (length initial) j v)
+pub enqueue_stands : (initial : List ℕ) (j v : ℕ) → slice_get initial j ≡ Some v
+    → Contains (initial_enqueues initial) (initial_enqueue (length initial) j v)
 enqueue_stands initial j v at =
     contains_at (initial_enqueues initial) j (initial_enqueue (length initial) j v)
     (at_enqueue initial j ∙ ap (option_map (initial_enqueue (length initial) j)) at)
@@ -95,7 +104,8 @@ one_later n x y same =
     same_operation x y (omega arith) (omega arith) (ap (λ (o : Operation). o.thread) same) (ap (λ (o : Operation). o.kind) same)
 
 -- an operation called after the initial values is one of the operations
-pub called_late : (initial : List ℕ) (operations : List Operation) (o x : Operation) → length initial ≤ MAX_INITIAL → ORIGIN ≤ o.call → later_by ORIGIN x ≡ o
+pub called_late : (initial : List ℕ) (operations : List Operation) (o x : Operation) → length initial ≤ MAX_INITIAL
+    → ORIGIN ≤ o.call → later_by ORIGIN x ≡ o
     → Contains operations x ↔ Contains (timeline initial operations) o
 called_late initial operations o x few late is = (
   λ among. subst (Contains (timeline initial operations)) is
@@ -104,7 +114,8 @@ called_late initial operations o x few late is = (
   λ among. back (Contains-append_cases (initial_enqueues initial) (map (later_by ORIGIN) operations) o among),
 )
   where
-    back : Contains (initial_enqueues initial) o ⊎ Contains (map (later_by ORIGIN) operations) o → Contains operations x
+    back : Contains (initial_enqueues initial) o ⊎ Contains (map (later_by ORIGIN) operations) o
+        → Contains operations x
     back (inl here) =
         let found = enqueue_place initial o here in
         let calls : initial_time (length initial) found.0 ≡ o.call = ap (λ (y : Operation). y.call) found.3 in
@@ -117,14 +128,16 @@ called_late initial operations o x few late is = (
 -- ---- the operation at a place of the timeline
 
 -- an element after the first list is one of the second
-pub get_behind : {X : Type 0} (xs ys : List X) (n p : ℕ) → n ≡ length xs → n ≤ p → slice_get (xs ++ ys) p ≡ slice_get ys (p - n)
+pub get_behind : {X : Type 0} (xs ys : List X) (n p : ℕ) → n ≡ length xs → n ≤ p
+    → slice_get (xs ++ ys) p ≡ slice_get ys (p - n)
 get_behind [] ys n p is within = ap (slice_get ys) (omega arith)
 get_behind (x ∷ xs) ys n zero is within = absurd (omega arith)
 get_behind (x ∷ xs) ys n (suc p) is within = get_behind xs ys (n - 1) p (omega arith) (omega arith) ∙ ap (slice_get ys) (omega arith)
 
 -- the operation at a place of the timeline: an initial enqueue, or an operation after these
 pub at_timeline : (initial : List ℕ) (operations : List Operation) (p : ℕ)
-    → ((p < length initial) × (slice_get (timeline initial operations) p ≡ option_map (initial_enqueue (length initial) p) (slice_get initial p)))
+    → ((p < length initial) × (slice_get (timeline initial operations) p
+    ≡ option_map (initial_enqueue (length initial) p) (slice_get initial p)))
     ⊎ ((length initial ≤ p) × (slice_get (timeline initial operations) p
     ≡ option_map (later_by ORIGIN) (slice_get operations (p - length initial))))
 at_timeline initial operations p = elim (cases_lt p (length initial)) [
@@ -155,7 +168,8 @@ pub record IsLaterAt (initial : List ℕ) (operations : List Operation) (p : ℕ
   pub is : later_by ORIGIN operation ≡ x
 
 -- each place of the timeline has the enqueue of an initial value, or an operation moved later
-pub timeline_at : (initial : List ℕ) (operations : List Operation) (p : ℕ) (x : Operation) → slice_get (timeline initial operations) p ≡ Some x
+pub timeline_at : (initial : List ℕ) (operations : List Operation) (p : ℕ) (x : Operation)
+    → slice_get (timeline initial operations) p ≡ Some x
     → IsInitialEnqueueAt initial p x ⊎ IsLaterAt initial operations p x
 timeline_at initial operations p x at = elim (at_timeline initial operations p) [
   | inl early ↦
@@ -187,18 +201,21 @@ enqueues_earlier time n (v ∷ values) later within =
     ap (λ (o : Option Operation). cons_option o (filter_map (earlier n) (enqueues_from (time + 1) values ++ later))) (earlier_none n _ (omega arith))
     ∙ enqueues_earlier (time + 1) n values later (omega arith)
 
-later_earlier : (n : ℕ) (operations : List Operation) → filter_map (earlier n) (map (later_by n) operations) ≡ operations
+later_earlier : (n : ℕ) (operations : List Operation)
+    → filter_map (earlier n) (map (later_by n) operations) ≡ operations
 later_earlier n [] = refl
 later_earlier n (o ∷ operations) =
     rw (earlier_later n o, later_earlier n operations) refl
 
 -- the timeline without the initial enqueues, moved back, is the list of the operations
-pub timeline_earlier : (initial : List ℕ) (listed : List Operation) → length initial ≤ MAX_INITIAL → filter_map (earlier ORIGIN) (timeline initial listed) ≡ listed
+pub timeline_earlier : (initial : List ℕ) (listed : List Operation) → length initial ≤ MAX_INITIAL
+    → filter_map (earlier ORIGIN) (timeline initial listed) ≡ listed
 timeline_earlier initial listed few =
     enqueues_earlier (ORIGIN - length initial) ORIGIN initial (map (later_by ORIGIN) listed) (omega arith) ∙ later_earlier ORIGIN listed
 
 -- a complete timeline has no more initial values than come before the first ticket
-pub few_initial : (initial : List ℕ) (operations : List Operation) → AreComplete (timeline initial operations) → length initial ≤ MAX_INITIAL
+pub few_initial : (initial : List ℕ) (operations : List Operation) → AreComplete (timeline initial operations)
+    → length initial ≤ MAX_INITIAL
 few_initial [] operations complete = omega arith
 few_initial (v ∷ rest) operations complete =
     let first = (complete.timed zero (enqueue_at 0 0) (omega arith)).above_zero in omega (arith, first)
@@ -208,13 +225,15 @@ few_initial (v ∷ rest) operations complete =
 -- ---- the operation at a place of the timeline
 
 -- a phantom dequeue is a dequeue
-pub fresh_dequeues : (operations : List Operation) (deq : Operation) (enq : Option Operation) → IsFreshViolation (on operations) deq enq
+pub fresh_dequeues : (operations : List Operation) (deq : Operation) (enq : Option Operation)
+    → IsFreshViolation (on operations) deq enq
     → (v : ℕ) × (deq.kind ≡ Dequeue v)
 fresh_dequeues operations deq None is = (is.value, is.dequeues.1)
 fresh_dequeues operations deq (Some enq) is = (is.value, is.dequeues.1)
 
 -- filtering commutes with moving to times, for a test that doesn't look at times
-pub filter_timed : (test : Operation → Bool) → ((o : Operation) → test (later_by ORIGIN o) ≡ test o) → (os : List Operation)
+pub filter_timed : (test : Operation → Bool) → ((o : Operation) → test (later_by ORIGIN o) ≡ test o)
+    → (os : List Operation)
     → filter test (timed os) ≡ timed (filter test os)
 filter_timed test same [] = refl
 filter_timed test same (o ∷ os) = elim (cases_Bool (test o)) [
@@ -223,7 +242,8 @@ filter_timed test same (o ∷ os) = elim (cases_Bool (test o)) [
 ]
 
 -- the operations at places, at their times
-pub places_timed : (operations : List Operation) (places : List ℕ) (listed : List Operation) → ArePlacesOf operations places listed
+pub places_timed : (operations : List Operation) (places : List ℕ) (listed : List Operation)
+    → ArePlacesOf operations places listed
     → ArePlacesOf (timed operations) places (timed listed)
 places_timed operations [] [] at = refl
 places_timed operations (p ∷ places) (o ∷ listed) at =
@@ -248,7 +268,8 @@ module _ (initial : List ℕ) (operations : List Operation) where
       ∙ ap (slice_get (timed operations)) (omega arith) ∙ at
 
   -- the same for an optional operation
-  pub maybe_on : (p : Option ℕ) (o : Option Operation) → IsMaybeOperation operations p o → IsMaybeAt all (option_map (behind k) p) o
+  pub maybe_on : (p : Option ℕ) (o : Option Operation) → IsMaybeOperation operations p o
+      → IsMaybeAt all (option_map (behind k) p) o
   maybe_on None None at = tt
   maybe_on (Some p) (Some o) at = operation_on p o at
   maybe_on _ _ at = absurd assumption
@@ -293,7 +314,8 @@ module _ (initial : List ℕ) (operations : List Operation) where
     | inr there ↦ inr (there, is)
   ]
 
-  did_back : (o : Operation) (kind : OpKind) → ((v : ℕ) → kind ≢ Enqueue v) → Did all o kind → Did (timed operations) o kind
+  did_back : (o : Operation) (kind : OpKind) → ((v : ℕ) → kind ≢ Enqueue v) → Did all o kind
+      → Did (timed operations) o kind
   did_back o kind other (among, is) = elim (Contains-append_cases (initial_enqueues initial) (timed operations) o among) [
     | inl here ↦
         let found = enqueue_place initial o here in
@@ -331,7 +353,8 @@ module _ (initial : List ℕ) (operations : List Operation) where
   life_on o _ = refl
 
   early_lives : (time : ℕ) (values : List ℕ)
-      → filter_map (λ o. life_from all o o.kind) (enqueues_from time values) ≡ initial_lives (timed operations) time values
+      → filter_map (λ o. life_from all o o.kind) (enqueues_from time values)
+      ≡ initial_lives (timed operations) time values
   early_lives time [] = refl
   early_lives time (v ∷ values) =
       ap₂ (λ (d : Option Operation) (lives : List Life). record { enqueue = enqueue_at time v; dequeue = d } ∷ lives)
@@ -360,12 +383,14 @@ module _ (initial : List ℕ) (operations : List Operation) (few : length initia
   ]
 
   -- the operation at a place of the timeline after the initial values is one of the history
-  operation_told : (p : ℕ) (o : Operation) → IsAt (timeline initial operations) p o → (length initial) ≤ p → IsOperation operations (history_place (length initial) p) o
+  operation_told : (p : ℕ) (o : Operation) → IsAt (timeline initial operations) p o → (length initial) ≤ p
+      → IsOperation operations (history_place (length initial) p) o
   operation_told p o at after =
       sym (get_behind (initial_enqueues initial) (timed operations) (length initial) p (sym (length_enqueues (ORIGIN - (length initial)) initial)) after) ∙ at
 
   -- an empty dequeue is at its translated place
-  pub empty_told : (p : ℕ) (o : Operation) → IsAt (timeline initial operations) p o → o.kind ≡ DequeueEmpty → IsOperation operations (history_place (length initial) p) o
+  pub empty_told : (p : ℕ) (o : Operation) → IsAt (timeline initial operations) p o → o.kind ≡ DequeueEmpty
+      → IsOperation operations (history_place (length initial) p) o
   empty_told p o at is = operation_told p o at (stands_behind p o at (λ v enq early. let clash : DequeueEmpty ≡ Enqueue v = sym is ∙ enq in cc))
 
   -- a dequeue is at its translated place
@@ -374,29 +399,34 @@ module _ (initial : List ℕ) (operations : List Operation) (few : length initia
   dequeue_told p o v at is = operation_told p o at (stands_behind p o at (λ w enq early. let clash : Dequeue v ≡ Enqueue w = sym is ∙ enq in cc))
 
   -- an optional dequeue is at its translated place
-  pub maybe_told : (p : Option ℕ) (o : Option Operation) → IsMaybeAt (timeline initial operations) p o → MatchOption o ⊤ (λ d. (v : ℕ) × (d.kind ≡ Dequeue v))
+  pub maybe_told : (p : Option ℕ) (o : Option Operation) → IsMaybeAt (timeline initial operations) p o
+      → MatchOption o ⊤ (λ d. (v : ℕ) × (d.kind ≡ Dequeue v))
       → IsMaybeOperation operations (option_map (history_place (length initial)) p) o
   maybe_told None None at is = tt
   maybe_told (Some p) (Some o) at is = dequeue_told p o is.0 at is.1
   maybe_told _ _ at is = absurd at
 
   -- the enqueue of a value is at its translated source
-  pub source_told : (p : ℕ) (o : Operation) → IsAt (timeline initial operations) p o → IsSource initial operations (history_source (length initial) p) o
+  pub source_told : (p : ℕ) (o : Operation) → IsAt (timeline initial operations) p o
+      → IsSource initial operations (history_source (length initial) p) o
   source_told p o at = elim (cases_Bool (nat_lt p (length initial))) [
     | inl is ↦ rw is (sym (early_at initial operations p (ltb-true p (length initial) is)) ∙ at)
     | inr is ↦ rw is (operation_told p o at (ltb-false p (length initial) is))
   ]
 
   -- the operations of a value have translated places
-  value_told : (value : PlacedLife) → HasPlaces (timeline initial operations) value → IsLife (on (timeline initial operations)) value.life
-      → IsNamed initial operations (history_source (length initial) value.enqueue) (option_map (history_place (length initial)) value.dequeue) value.life
+  value_told : (value : PlacedLife) → HasPlaces (timeline initial operations) value
+      → IsLife (on (timeline initial operations)) value.life
+      → IsNamed initial operations (history_source (length initial) value.enqueue)
+      (option_map (history_place (length initial)) value.dequeue) value.life
   value_told value at is = (
     source_told value.enqueue (enqueue_of value.life) at.0,
     maybe_told value.dequeue (dequeue_of value.life) at.1 (dequeues (timeline initial operations) is.0 (dequeue_of value.life) is.2),
   )
 
   -- an enqueue that failed, or that the dequeue returned before, is not that of an initial value
-  pub call_told : (deq : ℕ) (d : Operation) (enq : Option ℕ) (e : Option Operation) → IsAt (timeline initial operations) deq d
+  pub call_told : (deq : ℕ) (d : Operation) (enq : Option ℕ) (e : Option Operation)
+      → IsAt (timeline initial operations) deq d
       → IsMaybeAt (timeline initial operations) enq e
       → IsFreshViolation (on (timeline initial operations)) d e
       → IsMaybeOperation operations (option_map (history_place (length initial)) enq) e
@@ -418,7 +448,9 @@ module _ (initial : List ℕ) (operations : List Operation) (few : length initia
 
   -- the chosen phantom dequeue, at its translated places
   pub fresh_told : (found : FreshPlaces) → AreChosenFresh (timeline initial operations) found
-      → NamesChosenFresh initial operations (violation.Fresh (history_place (length initial) found.deq) (option_map (history_place (length initial)) found.enq))
+      → NamesChosenFresh initial operations
+      (violation.Fresh (history_place (length initial) found.deq)
+      (option_map (history_place (length initial)) found.enq))
   fresh_told found (deq, enq, at_deq, at_enq, chosen) = (
     deq,
     enq,
@@ -447,14 +479,17 @@ module _ (initial : List ℕ) (operations : List Operation) (few : length initia
         chosen_of (on (timeline initial operations)) (course initial operations) (course_back initial operations) (repeat enq first second) (none, chosen),
       )
 
-  told_lives : (pairs : List Pair) → map (λ m. m.life) (map (history_value (length initial) (timeline initial operations)) pairs)
+  told_lives : (pairs : List Pair)
+      → map (λ m. m.life) (map (history_value (length initial) (timeline initial operations)) pairs)
       ≡ map (λ m. m.life) (map (value_at (timeline initial operations)) pairs)
   told_lives [] = refl
   told_lives (pair ∷ pairs) = ap (λ lives. (value_at (timeline initial operations) pair).life ∷ lives) (told_lives pairs)
 
   -- the values of a matching are those of its history
-  pub values_told : (pairs : List Pair) → HoldsLives (timeline initial operations) (map (value_at (timeline initial operations)) pairs)
-      → HoldsValues (record { initial = initial; operations = operations }) (map (history_value (length initial) (timeline initial operations)) pairs)
+  pub values_told : (pairs : List Pair)
+      → HoldsLives (timeline initial operations) (map (value_at (timeline initial operations)) pairs)
+      → HoldsValues (record { initial = initial; operations = operations })
+      (map (history_value (length initial) (timeline initial operations)) pairs)
   values_told pairs holds = record {
     lives = told_lives pairs ∙ holds.0 ∙ same_lives initial operations;
     named = λ i d within.
@@ -471,7 +506,8 @@ module _ (initial : List ℕ) (operations : List Operation) (few : length initia
   -- ---- lists of places
 
   -- operations of the history, found in the timeline, are at their translated places
-  places_told : (places : List ℕ) (listed : List Operation) → ArePlacesOf (timeline initial operations) places (map (later_by ORIGIN) listed)
+  places_told : (places : List ℕ) (listed : List Operation)
+      → ArePlacesOf (timeline initial operations) places (map (later_by ORIGIN) listed)
       → ArePlacesOf operations (map (history_place (length initial)) places) listed
   places_told [] [] at = refl
   places_told (p ∷ places) (o ∷ listed) at =
@@ -534,7 +570,8 @@ module _ (initial : List ℕ) (operations : List Operation) (clear : IsClear (co
   }
 
   -- a life of the history is one of the timeline
-  pub clear_life : (life : Life) → IsLife (course initial operations) life → IsLife (on (timeline initial operations)) life
+  pub clear_life : (life : Life) → IsLife (course initial operations) life
+      → IsLife (on (timeline initial operations)) life
   clear_life = life_of (course initial operations) (on (timeline initial operations)) clear_course
 
   -- the listed lives are the lives of the history
@@ -546,13 +583,15 @@ module _ (initial : List ℕ) (operations : List Operation) (clear : IsClear (co
         (life_of_contained (timeline initial operations) life (subst (λ lives. Contains lives life) (sym (same_lives initial operations)) listed)),
   )
 
-  module _ (values : List MatchedValue) (holds : HoldsValues (record { initial = initial; operations = operations }) values) where
+  module _ (values : List MatchedValue)
+      (holds : HoldsValues (record { initial = initial; operations = operations }) values) where
     -- each value is a life
     pub value_lives : (value : MatchedValue) → Contains values value → IsLife (course initial operations) value.life
     value_lives value among =
         (lists_its_lives value.life).1 (subst (λ lives. Contains lives value.life) holds.lives (mapped_to (λ m. m.life) values value among))
 
     -- each life is that of a value
-    pub life_value : (life : Life) → IsLife (course initial operations) life → (value : MatchedValue) × Contains values value × (value.life ≡ life)
+    pub life_value : (life : Life) → IsLife (course initial operations) life
+        → (value : MatchedValue) × Contains values value × (value.life ≡ life)
     life_value life is =
         mapped_from (λ m. m.life) values life (subst (λ lives. Contains lives life) (sym holds.lives) ((lists_its_lives life).0 is))

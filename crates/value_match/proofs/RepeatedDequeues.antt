@@ -1,7 +1,8 @@
 -- The one dequeue of each source and of each enqueued value, or the chosen pair of one source, found by walks over
 -- the operations.
 use Rattle.value_match.proofs.Common.{AllPairs, ap, AreChosenRepeat, AreComplete, arith, cases_eq, cases_order}
-use Rattle.value_match.proofs.Common.{contains_at, Dequeue, Did, Enqueue, enqueued_value, find, get_or, get_or-set_other}
+use Rattle.value_match.proofs.Common.{contains_at, Dequeue, Did, Enqueue, enqueued_value, find, get_or}
+use Rattle.value_match.proofs.Common.{get_or-set_other}
 use Rattle.value_match.proofs.Common.{get_or-set_same, HasTakersTo, HoldsDequeues, inl, inr, is_dequeue_of, IsAt}
 use Rattle.value_match.proofs.Common.{IsClear, IsDequeuePlace, IsMaybeAt, IsSourceOf, length, length-replicate}
 use Rattle.value_match.proofs.Common.{length-set, List, MatchOption, NoFreshViolation, None, NoneDid, on, one_at}
@@ -14,7 +15,8 @@ use Rattle.value_match.proofs.Lives.{found_dequeue, same_found}
 -- ---- the operations that take from a call
 
 -- an operation of a complete history has one place
-pub one_place : (operations : List Operation) (i j : ℕ) (o : Operation) → AreComplete operations → IsAt operations i o → IsAt operations j o → i ≡ j
+pub one_place : (operations : List Operation) (i j : ℕ) (o : Operation) → AreComplete operations → IsAt operations i o
+    → IsAt operations j o → i ≡ j
 one_place operations i j o complete at_i at_j =
     let rise : AllPairs (λ x y. x.call < y.call) operations = λ i j d below within. (complete.apart i j d below within).called_first in
     let up = pairs_at (λ x y. x.call < y.call) operations i j o o rise in
@@ -22,7 +24,8 @@ one_place operations i j o complete at_i at_j =
     grind (arith, cases_order i j)
 
 -- a dequeue with a source takes from it
-pub takes_source : (operations : List Operation) (i p : ℕ) (o : Operation) → IsAt operations i o → IsSourceOf operations o.kind (Some p)
+pub takes_source : (operations : List Operation) (i p : ℕ) (o : Operation) → IsAt operations i o
+    → IsSourceOf operations o.kind (Some p)
     → TakesFrom operations i p
 takes_source operations i p o here source = pick o.kind refl source
   where
@@ -31,7 +34,8 @@ takes_source operations i p o here source = pick o.kind refl source
     pick _ is wrong = cc
 
 -- an operation without a source takes from nothing
-pub takes_no_source : (operations : List Operation) (i : ℕ) (o : Operation) → IsAt operations i o → IsSourceOf operations o.kind None
+pub takes_no_source : (operations : List Operation) (i : ℕ) (o : Operation) → IsAt operations i o
+    → IsSourceOf operations o.kind None
     → (p : ℕ) → ¬ (TakesFrom operations i p)
 takes_no_source operations i o here none p t =
     let is : o.kind ≡ Dequeue t.value = ap (λ (x : Operation). x.kind) (one_at operations i o t.dequeue here t.at) ∙ t.dequeues in
@@ -53,7 +57,8 @@ module _ (operations : List Operation) (complete : AreComplete operations) where
       one_place operations p q call' complete (subst (IsAt operations p) same at_p) at_q
 
   -- two dequeues of one value return at different times
-  pub distinct_returns : (p i j : ℕ) → TakesFrom operations i p → TakesFrom operations j p → return_at operations i ≡ return_at operations j → i ≡ j
+  pub distinct_returns : (p i j : ℕ) → TakesFrom operations i p → TakesFrom operations j p
+      → return_at operations i ≡ return_at operations j → i ≡ j
   distinct_returns p i j x y same =
       let ret_i : return_at operations i ≡ x.dequeue.ret = rw x.at refl in
       let ret_j : return_at operations j ≡ y.dequeue.ret = rw y.at refl in
@@ -66,13 +71,15 @@ pub source_inside : (operations : List Operation) (i p : ℕ) → TakesFrom oper
 source_inside operations i p t = slice_get_within operations p t.from_call.0 t.from_call.1
 
 -- a dequeue takes from its value's enqueue
-pub takes_from_enqueue : (operations : List Operation) (i p : ℕ) (o enq : Operation) (v : ℕ) → IsAt operations i o → o.kind ≡ Dequeue v
+pub takes_from_enqueue : (operations : List Operation) (i p : ℕ) (o enq : Operation) (v : ℕ) → IsAt operations i o
+    → o.kind ≡ Dequeue v
     → IsAt operations p enq → enq.kind ≡ Enqueue v → TakesFrom operations i p
 takes_from_enqueue operations i p o enq v here is there accepted =
     record { value = v; dequeue = o; at = here; dequeues = is; from_call = (enq, there, ap enqueued_value accepted) }
 
 -- without phantom dequeues, each dequeue takes from a successful enqueue
-pub accepted_call : (operations : List Operation) (i p : ℕ) → NoFreshViolation (on operations) → (t : TakesFrom operations i p)
+pub accepted_call : (operations : List Operation) (i p : ℕ) → NoFreshViolation (on operations)
+    → (t : TakesFrom operations i p)
     → (t.from_call.0).kind ≡ Enqueue t.value
 accepted_call operations i p no_fresh t = elim (calls_for (t.from_call.0).kind t.value t.from_call.2) [
   | inl accepted ↦ accepted
@@ -99,7 +106,8 @@ no_takers operations = record {
 }
 
 -- one more operation that takes from nothing
-pub takes_nothing : (operations : List Operation) (n : ℕ) (takers : List (Option ℕ)) → ((p : ℕ) → ¬ (TakesFrom operations n p))
+pub takes_nothing : (operations : List Operation) (n : ℕ) (takers : List (Option ℕ))
+    → ((p : ℕ) → ¬ (TakesFrom operations n p))
     → HasTakersTo operations n takers → HasTakersTo operations (n + 1) takers
 takes_nothing operations n takers none known = record {
   one_each = known.one_each;
@@ -111,8 +119,10 @@ takes_nothing operations n takers none known = record {
 }
 
 -- one more operation that takes from a call, which had no taker
-pub takes_first : (operations : List Operation) (n q : ℕ) (takers : List (Option ℕ)) → AreComplete operations → TakesFrom operations n q
-    → get_or takers q None ≡ None → HasTakersTo operations n takers → HasTakersTo operations (n + 1) (set takers q (Some n))
+pub takes_first : (operations : List Operation) (n q : ℕ) (takers : List (Option ℕ)) → AreComplete operations
+    → TakesFrom operations n q
+    → get_or takers q None ≡ None → HasTakersTo operations n takers
+    → HasTakersTo operations (n + 1) (set takers q (Some n))
 takes_first operations n q takers complete here free known = record {
   one_each = length-set takers q (Some n) ∙ known.one_each;
   taken = λ p i is. elim (cases_eq p q) [
@@ -149,7 +159,8 @@ pub record IsSoonest (operations : List Operation) (n : ℕ) (pair : RepeatPlace
   pub first_from : TakesFrom operations pair.first pair.enq
   pub second_from : TakesFrom operations pair.second pair.enq
   pub in_order : return_at operations pair.first < return_at operations pair.second
-  pub soonest : (p i j : ℕ) → i < n → j < n → TakesFrom operations i p → TakesFrom operations j p → return_at operations i < return_at operations j
+  pub soonest : (p i j : ℕ) → i < n → j < n → TakesFrom operations i p → TakesFrom operations j p
+      → return_at operations i < return_at operations j
       → return_at operations pair.second ≤ return_at operations j
 
 -- no two of the first n operations take from one place
@@ -161,12 +172,14 @@ abbrev pub Twice : List Operation → ℕ → Option RepeatPlaces → Type 0
 Twice operations n found = MatchOption found (Once operations n) (IsSoonest operations n)
 
 -- the state of the walk after the first n operations
-pub record HasMet (operations : List Operation) (firsts : List (Option ℕ)) (n : ℕ) (found : Option RepeatPlaces) : Type 0 where
+pub record HasMet (operations : List Operation) (firsts : List (Option ℕ)) (n : ℕ)
+    (found : Option RepeatPlaces) : Type 0 where
   pub kept : HasFirsts operations firsts n
   pub twice : Twice operations n found
 
 -- the walk begins with the takers of the prefix
-pub met_once : (operations : List Operation) (takers : List (Option ℕ)) (n : ℕ) → HasTakersTo operations n takers → HasMet operations takers n None
+pub met_once : (operations : List Operation) (takers : List (Option ℕ)) (n : ℕ) → HasTakersTo operations n takers
+    → HasMet operations takers n None
 met_once operations takers n known = record {
   kept = record { one_each = known.one_each; taken = known.taken; least = λ i p below from. (i, known.takes i p below from, omega arith) };
   twice = λ p i j below_i below_j from_i from_j.
@@ -175,7 +188,8 @@ met_once operations takers n known = record {
 
 -- one more operation that adds no pair
 met_more : (operations : List Operation) (n : ℕ) (found : Option RepeatPlaces)
-    → ((q i j : ℕ) → i < n + 1 → j < n + 1 → TakesFrom operations i q → TakesFrom operations j q → i ≢ j → (i < n) × (j < n))
+    → ((q i j : ℕ) → i < n + 1 → j < n + 1 → TakesFrom operations i q → TakesFrom operations j q → i ≢ j
+    → (i < n) × (j < n))
     → Twice operations n found → Twice operations (n + 1) found
 met_more operations n None before once = λ q i j low high from_i from_j. elim (cases_eq i j) [
   | inl same ↦ same
@@ -191,7 +205,8 @@ met_more operations n (Some pair) before is = record {
 }
 
 -- one more operation that takes from nothing
-pub met_skip : (operations : List Operation) (firsts : List (Option ℕ)) (n : ℕ) (found : Option RepeatPlaces) → ((p : ℕ) → ¬ (TakesFrom operations n p))
+pub met_skip : (operations : List Operation) (firsts : List (Option ℕ)) (n : ℕ) (found : Option RepeatPlaces)
+    → ((p : ℕ) → ¬ (TakesFrom operations n p))
     → HasMet operations firsts n found → HasMet operations firsts (n + 1) found
 met_skip operations firsts n found none met = record {
   kept = record {
@@ -227,9 +242,11 @@ record Ends (operations : List Operation) (n p other : ℕ) (pair : RepeatPlaces
   pub apart : pair.first ≢ pair.second
   pub first_here : return_at operations pair.first ≤ return_at operations n
   pub first_there : return_at operations pair.first ≤ return_at operations other
-  pub second_least : (m : ℕ) → return_at operations other ≤ m → return_at operations n ≤ m → return_at operations pair.second ≤ m
+  pub second_least : (m : ℕ) → return_at operations other ≤ m → return_at operations n ≤ m
+      → return_at operations pair.second ≤ m
 
-module _ (operations : List Operation) (complete : AreComplete operations) (firsts : List (Option ℕ)) (n p : ℕ) (from : TakesFrom operations n p) where
+module _ (operations : List Operation) (complete : AreComplete operations) (firsts : List (Option ℕ)) (n p : ℕ)
+    (from : TakesFrom operations n p) where
   -- an operation that takes from another place is another operation
   other_source : (i q : ℕ) → q ≢ p → i < n + 1 → TakesFrom operations i q → i < n
   other_source i q other below from_i = elim (cases_eq i n) [
@@ -238,7 +255,8 @@ module _ (operations : List Operation) (complete : AreComplete operations) (firs
   ]
 
   -- the first operations by source, once one is kept that returns no later than those of its source before it
-  firsts_more : (first : ℕ) → first < n + 1 → TakesFrom operations first p → return_at operations first ≤ return_at operations n
+  firsts_more : (first : ℕ) → first < n + 1 → TakesFrom operations first p
+      → return_at operations first ≤ return_at operations n
       → ((i : ℕ) → i < n → TakesFrom operations i p → return_at operations first ≤ return_at operations i)
       → HasFirsts operations firsts n → HasFirsts operations (set firsts p (Some first)) (n + 1)
   firsts_more first below from_first least_here least_before known = record {
@@ -286,8 +304,10 @@ module _ (operations : List Operation) (complete : AreComplete operations) (firs
       only i below from_i = elim (cases_eq i n) [ inl last ↦ last | inr before ↦ absurd (alone i (omega arith) from_i) ]
 
   -- one more operation, whose source has a taker
-  pub met_again : (other : ℕ) (found : Option RepeatPlaces) (pair result : RepeatPlaces) → get_or firsts p None ≡ Some other
-      → IsPairOf (return_at operations) p other n pair → IsSoonerOf (return_at operations) found pair result → HasMet operations firsts n found
+  pub met_again : (other : ℕ) (found : Option RepeatPlaces) (pair result : RepeatPlaces)
+      → get_or firsts p None ≡ Some other
+      → IsPairOf (return_at operations) p other n pair → IsSoonerOf (return_at operations) found pair result
+      → HasMet operations firsts n found
       → HasMet operations (set firsts p (Some pair.first)) (n + 1) (Some result)
   met_again other found pair result held is_pair sooner met = record {
     kept = firsts_more pair.first ends.first_below ends.first_from ends.first_here
@@ -316,7 +336,8 @@ module _ (operations : List Operation) (complete : AreComplete operations) (firs
 
       -- no pair with this operation is sooner
       no_sooner : (q i j : ℕ) → i < n + 1 → j < n + 1 → TakesFrom operations i q → TakesFrom operations j q
-          → return_at operations i < return_at operations j → (i < n) × (j < n) ⊎ (return_at operations pair.second ≤ return_at operations j)
+          → return_at operations i < return_at operations j
+          → (i < n) × (j < n) ⊎ (return_at operations pair.second ≤ return_at operations j)
       no_sooner q i j low high from_i from_j less = elim (cases_eq q p) [
         | inl same ↦
             let from_i' = subst (TakesFrom operations i) same from_i in
@@ -325,7 +346,8 @@ module _ (operations : List Operation) (complete : AreComplete operations) (firs
         | inr differ ↦ inl (other_source i q differ low from_i, other_source j q differ high from_j)
       ]
 
-      soonest_pair : ((q i j : ℕ) → i < n → j < n → TakesFrom operations i q → TakesFrom operations j q → return_at operations i < return_at operations j
+      soonest_pair : ((q i j : ℕ) → i < n → j < n → TakesFrom operations i q → TakesFrom operations j q
+          → return_at operations i < return_at operations j
           → return_at operations pair.second ≤ return_at operations j) → IsSoonest operations (n + 1) pair
       soonest_pair before = record {
         first_from = rw is_pair.enq ends.first_from;
@@ -340,7 +362,8 @@ module _ (operations : List Operation) (complete : AreComplete operations) (firs
         ];
       }
 
-      twice : (found : Option RepeatPlaces) → IsSoonerOf (return_at operations) found pair result → Twice operations n found
+      twice : (found : Option RepeatPlaces) → IsSoonerOf (return_at operations) found pair result
+          → Twice operations n found
           → IsSoonest operations (n + 1) result
       twice None is once = rw is (soonest_pair (λ q i j low high from_i from_j less. let same = once q i j low high from_i from_j in grind arith))
       twice (Some f) (inl (is, sooner')) old = rw is (record {
@@ -364,7 +387,8 @@ found_inside operations n None met = tt
 found_inside operations n (Some f) met = slice_get_within operations f.second met.second_from.dequeue met.second_from.at
 
 -- the soonest pair of all operations is chosen
-pub repeat_chosen : (operations : List Operation) (n : ℕ) (pair : RepeatPlaces) → NoFreshViolation (on operations) → length operations ≤ n
+pub repeat_chosen : (operations : List Operation) (n : ℕ) (pair : RepeatPlaces) → NoFreshViolation (on operations)
+    → length operations ≤ n
     → IsSoonest operations n pair → AreChosenRepeat operations pair
 repeat_chosen operations n pair no_fresh all is =
     let one = is.first_from in
@@ -407,7 +431,8 @@ repeat_chosen operations n pair no_fresh all is =
     )
 
 -- if all operations take from different places, the kept ones are their takers
-pub once_taken : (operations : List Operation) (firsts : List (Option ℕ)) (n : ℕ) → length operations ≤ n → HasFirsts operations firsts n
+pub once_taken : (operations : List Operation) (firsts : List (Option ℕ)) (n : ℕ) → length operations ≤ n
+    → HasFirsts operations firsts n
     → Once operations n → HasTakersTo operations (length operations) firsts
 once_taken operations firsts n all known once = record {
   one_each = known.one_each;
@@ -428,7 +453,8 @@ dequeues_by_enqueues operations takers no_fresh taken = record {
   each = λ i o v here is. at_place i o v here is (get_or takers i None) refl;
 }
   where
-    at_place : (i : ℕ) (o : Operation) (v : ℕ) → IsAt operations i o → o.kind ≡ Enqueue v → (taker : Option ℕ) → get_or takers i None ≡ taker
+    at_place : (i : ℕ) (o : Operation) (v : ℕ) → IsAt operations i o → o.kind ≡ Enqueue v → (taker : Option ℕ)
+        → get_or takers i None ≡ taker
         → IsDequeuePlace operations v taker
     at_place i o v here is None none = λ x among dequeues.
         let j = place_of operations x among in
@@ -443,7 +469,8 @@ dequeues_by_enqueues operations takers no_fresh taken = record {
         (t.dequeue, t.at, t.dequeues ∙ ap Dequeue value)
 
 -- the dequeue at this place is the one that `find` gives
-pub found_at_place : (operations : List Operation) (enq : Operation) (v : ℕ) (place : Option ℕ) (dequeue : Option Operation) → IsClear (on operations)
+pub found_at_place : (operations : List Operation) (enq : Operation) (v : ℕ) (place : Option ℕ)
+    (dequeue : Option Operation) → IsClear (on operations)
     → Did operations enq (Enqueue v) → IsDequeuePlace operations v place
     → IsMaybeAt operations place dequeue → dequeue ≡ find (is_dequeue_of v) operations
 found_at_place operations enq v place dequeue clear did is at =
@@ -457,7 +484,8 @@ found_at_place operations enq v place dequeue clear did is at =
     named _ _ is there = absurd there
 
 -- with one taker each, there is no violation of the first two kinds
-pub clear_from_takers : (operations : List Operation) (takers : List (Option ℕ)) → AreComplete operations → NoFreshViolation (on operations)
+pub clear_from_takers : (operations : List Operation) (takers : List (Option ℕ)) → AreComplete operations
+    → NoFreshViolation (on operations)
     → HasTakersTo operations (length operations) takers → IsClear (on operations)
 clear_from_takers operations takers complete no_fresh taken = record {
   complete = complete;

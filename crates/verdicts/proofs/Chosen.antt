@@ -1,21 +1,25 @@
 -- The chosen violation is a violation, and only one is chosen.
 use Rattle.verdicts.proofs.Common.{[], ap, AreComplete, arith, Bool, call_or_never, CallsFor, cases_lt}
 use Rattle.verdicts.proofs.Common.{chosen_cover_violates, Contains, Dequeue, dequeue_call, dequeue_of, dequeue_return}
-use Rattle.verdicts.proofs.Common.{dequeued_if_called, Did, did_dequeue, Enqueue, enqueue_of, enqueue_return, false, fresh}
+use Rattle.verdicts.proofs.Common.{dequeued_if_called, Did, did_dequeue, Enqueue, enqueue_of, enqueue_return, false}
+use Rattle.verdicts.proofs.Common.{fresh}
 use Rattle.verdicts.proofs.Common.{FullViolation, inl, inr, IsChosenCoverFrom, IsChosenFresh, IsChosenFullViolation}
 use Rattle.verdicts.proofs.Common.{IsChosenOrderViolation, IsChosenRepeat, IsChosenWitness, IsClear, IsEnqueuedTooLate}
 use Rattle.verdicts.proofs.Common.{IsFreshViolation, IsLife, IsNeverEnqueued, IsNextOfCover, IsOrderViolation}
 use Rattle.verdicts.proofs.Common.{IsRepeatViolation, IsViolationOf, Life, List, MatchBool, MatchOption, nat_lt, NEVER}
-use Rattle.verdicts.proofs.Common.{NoFreshViolation, None, NoneDid, NoRepeatViolation, EnqueueFailed, on, Operation, Option}
+use Rattle.verdicts.proofs.Common.{NoFreshViolation, None, NoneDid, NoRepeatViolation, EnqueueFailed, on, Operation}
+use Rattle.verdicts.proofs.Common.{Option}
 use Rattle.verdicts.proofs.Common.{order, refl, repeat, return_or_never, same_call, same_enqueue, same_return}
 use Rattle.verdicts.proofs.Common.{same_value_call, Some, StaysAtLeast, subst, sym, true, witness, ℕ, ◌<◌, ◌∙◌, ◌∷◌}
 use Rattle.verdicts.proofs.Common.{◌≡◌, ◌≤◌}
 
-are_clear : (operations : List Operation) → AreComplete operations → NoFreshViolation (on operations) → NoRepeatViolation (on operations) → IsClear (on operations)
+are_clear : (operations : List Operation) → AreComplete operations → NoFreshViolation (on operations)
+    → NoRepeatViolation (on operations) → IsClear (on operations)
 are_clear operations complete no_fresh no_repeat = record { complete = complete; no_fresh = no_fresh; no_repeat = no_repeat }
 
 -- the chosen violation is a violation
-pub chosen_is_violation : (operations : List Operation) (full : FullViolation) → AreComplete operations → IsChosenFullViolation (on operations) full
+pub chosen_is_violation : (operations : List Operation) (full : FullViolation) → AreComplete operations
+    → IsChosenFullViolation (on operations) full
     → IsViolationOf (on operations) full
 chosen_is_violation operations (fresh deq enq) complete chosen = chosen.violates
 chosen_is_violation operations (repeat enq first second) complete chosen = chosen.1.violates
@@ -23,7 +27,8 @@ chosen_is_violation operations (order a b) complete chosen = chosen.2.violates
 chosen_is_violation operations (witness empty cover) complete chosen =
     chosen_cover_violates operations empty cover (are_clear operations complete chosen.0 chosen.1) chosen.3.answers_empty chosen.3.cover_is_chosen
 
-dequeued_value : (operations : List Operation) (deq : Operation) (enq : Option Operation) → IsFreshViolation (on operations) deq enq
+dequeued_value : (operations : List Operation) (deq : Operation) (enq : Option Operation)
+    → IsFreshViolation (on operations) deq enq
     → (v : ℕ) × Did operations deq (Dequeue v)
 dequeued_value operations deq None violation = (violation.value, violation.dequeues)
 dequeued_value operations deq (Some e) violation = (violation.value, violation.dequeues)
@@ -35,7 +40,8 @@ late_call : (operations : List Operation) (deq enq : Operation) (late : IsEnqueu
     → Contains operations enq × CallsFor enq late.value
 late_call operations deq enq late = elim late.enqueues [ inl failed ↦ (failed.0, inr failed.1) | inr accepted ↦ (accepted.0.0, inl accepted.0.1) ]
 
-not_never : (operations : List Operation) (deq enq : Operation) → IsNeverEnqueued (on operations) deq → IsEnqueuedTooLate (on operations) deq enq → ⊥
+not_never : (operations : List Operation) (deq enq : Operation) → IsNeverEnqueued (on operations) deq
+    → IsEnqueuedTooLate (on operations) deq enq → ⊥
 not_never operations deq enq never late =
     let values : late.value ≡ never.value = one_kind deq late.value never.value late.dequeues.1 never.dequeues.1 in
     elim late.enqueues [
@@ -65,8 +71,10 @@ one_fresh operations deq deq' enq enq' complete x y =
     cc
 
 -- no other dequeue of the value returned before the first of the chosen two
-no_sooner : (operations : List Operation) (enq first second other : Operation) (v : ℕ) → IsChosenRepeat (on operations) enq first second
-    → Did operations enq (Enqueue v) → Did operations first (Dequeue v) → Did operations other (Dequeue v) → first.ret ≤ other.ret
+no_sooner : (operations : List Operation) (enq first second other : Operation) (v : ℕ)
+    → IsChosenRepeat (on operations) enq first second
+    → Did operations enq (Enqueue v) → Did operations first (Dequeue v) → Did operations other (Dequeue v)
+    → first.ret ≤ other.ret
 no_sooner operations enq first second other v chosen enqueues dequeues dequeues' = elim (cases_lt other.ret first.ret) [
   | inl less ↦
       let repeats : IsRepeatViolation (on operations) enq other first =
@@ -78,7 +86,8 @@ no_sooner operations enq first second other v chosen enqueues dequeues dequeues'
 ]
 
 one_repeat : (operations : List Operation) (enq enq' first first' second second' : Operation) → AreComplete operations
-    → IsChosenRepeat (on operations) enq first second → IsChosenRepeat (on operations) enq' first' second' → repeat enq first second ≡ repeat enq' first' second'
+    → IsChosenRepeat (on operations) enq first second → IsChosenRepeat (on operations) enq' first' second'
+    → repeat enq first second ≡ repeat enq' first' second'
 one_repeat operations enq enq' first first' second second' complete x y =
     let le = x.soonest enq' first' second' y.violates in
     let ge = y.soonest enq first second x.violates in
@@ -96,11 +105,13 @@ one_repeat operations enq enq' first first' second second' complete x y =
     cc
 
 -- values that stay at least as long as each other leave and enter at the same tickets
-both_stay : (x y : Life) → StaysAtLeast x y → StaysAtLeast y x → (dequeue_call x ≡ dequeue_call y) × (enqueue_return x ≡ enqueue_return y)
+both_stay : (x y : Life) → StaysAtLeast x y → StaysAtLeast y x
+    → (dequeue_call x ≡ dequeue_call y) × (enqueue_return x ≡ enqueue_return y)
 both_stay x y first second = (omega arith, omega arith)
 
 one_dequeue : (operations : List Operation) (v w : ℕ) (d d' : Option Operation) → AreComplete operations → v ≡ w
-    → MatchOption d (NoneDid operations (Dequeue v)) (λ d. Did operations d (Dequeue v)) → MatchOption d' (NoneDid operations (Dequeue w)) (λ d. Did operations d (Dequeue w))
+    → MatchOption d (NoneDid operations (Dequeue v)) (λ d. Did operations d (Dequeue v))
+    → MatchOption d' (NoneDid operations (Dequeue w)) (λ d. Did operations d (Dequeue w))
     → call_or_never d ≡ call_or_never d' → d ≡ d'
 one_dequeue operations v w None None complete values x y calls = refl
 one_dequeue operations v w None (Some d) complete values x y calls = absurd (x d y.0 (y.1 ∙ ap (λ v. Dequeue v) (sym values)))
@@ -108,7 +119,8 @@ one_dequeue operations v w (Some d) None complete values x y calls = absurd (y d
 one_dequeue operations v w (Some d) (Some d') complete values x y calls = ap (λ o. Some o) (same_call operations d d' complete x.0 y.0 calls)
 
 -- lives that begin and end at the same times are equal
-one_life : (operations : List Operation) (x y : Life) → AreComplete operations → IsLife (on operations) x → IsLife (on operations) y
+one_life : (operations : List Operation) (x y : Life) → AreComplete operations → IsLife (on operations) x
+    → IsLife (on operations) y
     → enqueue_return x ≡ enqueue_return y → dequeue_call x ≡ dequeue_call y → x ≡ y
 one_life operations x y complete is_x is_y returns calls =
     let enqueues = same_return operations (enqueue_of x) (enqueue_of y) complete is_x.1.0 is_y.1.0 returns in
@@ -117,7 +129,8 @@ one_life operations x y complete is_x is_y returns calls =
     λ i. record { enqueue = enqueues i; dequeue = dequeues i }
 
 -- lives with the same dequeue return are equal
-one_left : (operations : List Operation) (x y : Life) → AreComplete operations → IsLife (on operations) x → IsLife (on operations) y
+one_left : (operations : List Operation) (x y : Life) → AreComplete operations → IsLife (on operations) x
+    → IsLife (on operations) y
     → dequeue_call x < NEVER → dequeue_call y < NEVER → dequeue_return x ≡ dequeue_return y → x ≡ y
 one_left operations x y complete is_x is_y called_x called_y returns =
     let (d, at_x) = dequeued_if_called x called_x in
@@ -132,7 +145,8 @@ one_left operations x y complete is_x is_y called_x called_y returns =
 
 -- only one order violation is chosen
 pub one_order : (operations : List Operation) (a b a' b' : Life) → AreComplete operations
-    → IsChosenOrderViolation (on operations) a b → IsChosenOrderViolation (on operations) a' b' → order a b ≡ order a' b'
+    → IsChosenOrderViolation (on operations) a b → IsChosenOrderViolation (on operations) a' b'
+    → order a b ≡ order a' b'
 one_order operations a b a' b' complete x y =
     let le = x.first a' b' y.violates in
     let ge = y.first a b x.violates in
@@ -142,15 +156,18 @@ one_order operations a b a' b' complete x y =
     let firsts = one_life operations a a' complete x.violates.is_a y.violates.is_a both.1 both.0 in
     cc
 
-one_next : (operations : List Operation) (frontier : ℕ) (x y : Life) → IsClear (on operations) → IsNextOfCover (on operations) frontier x
+one_next : (operations : List Operation) (frontier : ℕ) (x y : Life) → IsClear (on operations)
+    → IsNextOfCover (on operations) frontier x
     → IsNextOfCover (on operations) frontier y → x ≡ y
 one_next operations frontier x y clear next_x next_y =
     let both = both_stay x y (next_x.longest y next_y.is_life next_y.before_frontier) (next_y.longest x next_x.is_life next_x.before_frontier) in
     one_life operations x y clear.complete next_x.is_life next_y.is_life both.1 both.0
 
 -- only one cover is chosen
-pub one_cover : (operations : List Operation) (empty : Operation) (frontier : ℕ) (xs ys : List Life) → IsClear (on operations)
-    → IsChosenCoverFrom (on operations) empty frontier xs → IsChosenCoverFrom (on operations) empty frontier ys → xs ≡ ys
+pub one_cover : (operations : List Operation) (empty : Operation) (frontier : ℕ) (xs ys : List Life)
+    → IsClear (on operations)
+    → IsChosenCoverFrom (on operations) empty frontier xs → IsChosenCoverFrom (on operations) empty frontier ys
+    → xs ≡ ys
 one_cover operations empty frontier [] ys clear chosen chosen' = absurd chosen
 one_cover operations empty frontier (x ∷ xs) [] clear chosen chosen' = absurd chosen'
 one_cover operations empty frontier (x ∷ xs) (y ∷ ys) clear chosen chosen' =
@@ -162,13 +179,16 @@ one_cover operations empty frontier (x ∷ xs) (y ∷ ys) clear chosen chosen' =
   where
     go : (b : Bool) → MatchBool b (xs ≡ []) (IsChosenCoverFrom (on operations) empty (dequeue_call x) xs)
         → MatchBool b (ys ≡ []) (IsChosenCoverFrom (on operations) empty (dequeue_call x) ys)
-        → (IsChosenCoverFrom (on operations) empty (dequeue_call x) xs → IsChosenCoverFrom (on operations) empty (dequeue_call x) ys → xs ≡ ys) → xs ≡ ys
+        → (IsChosenCoverFrom (on operations) empty (dequeue_call x) xs
+        → IsChosenCoverFrom (on operations) empty (dequeue_call x) ys → xs ≡ ys) → xs ≡ ys
     go true ends ends' more = ends ∙ sym ends'
     go false further further' more = more further further'
 
 -- only one witness violation is chosen
-pub one_witness : (operations : List Operation) (empty empty' : Operation) (cover cover' : List Life) → IsClear (on operations)
-    → IsChosenWitness (on operations) empty cover → IsChosenWitness (on operations) empty' cover' → witness empty cover ≡ witness empty' cover'
+pub one_witness : (operations : List Operation) (empty empty' : Operation) (cover cover' : List Life)
+    → IsClear (on operations)
+    → IsChosenWitness (on operations) empty cover → IsChosenWitness (on operations) empty' cover'
+    → witness empty cover ≡ witness empty' cover'
 one_witness operations empty empty' cover cover' clear x y =
     let le = x.first empty' y.answers_empty y.is_covered in
     let ge = y.first empty x.answers_empty x.is_covered in
@@ -178,7 +198,8 @@ one_witness operations empty empty' cover cover' clear x y =
     cc
 
 -- a history has one chosen violation
-pub one_chosen_violation : (operations : List Operation) (x y : FullViolation) → AreComplete operations → IsChosenFullViolation (on operations) x
+pub one_chosen_violation : (operations : List Operation) (x y : FullViolation) → AreComplete operations
+    → IsChosenFullViolation (on operations) x
     → IsChosenFullViolation (on operations) y → x ≡ y
 one_chosen_violation operations (fresh deq enq) (fresh deq' enq') complete x y = one_fresh operations deq deq' enq enq' complete x y
 one_chosen_violation operations (fresh deq enq) _ complete x y = absurd (y.0 deq enq x.violates)

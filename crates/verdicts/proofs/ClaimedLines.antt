@@ -2,7 +2,8 @@
 -- linearization.
 use Rattle.verdicts.proofs.Common.{[], AllWithin, ap, AreLives, arith, Bool, CallsRise, cases_lt, ClaimLine, Contains}
 use Rattle.verdicts.proofs.Common.{contains_at, Contents, course_of, course_on, covers_are_lives, CoversFrom, Dequeue}
-use Rattle.verdicts.proofs.Common.{dequeue_call, dequeue_of, dequeued_if_called, drop, Enqueue, enqueue_of, EnqueuedBefore}
+use Rattle.verdicts.proofs.Common.{dequeue_call, dequeue_of, dequeued_if_called, drop, Enqueue, enqueue_of}
+use Rattle.verdicts.proofs.Common.{EnqueuedBefore}
 use Rattle.verdicts.proofs.Common.{Err, false, flat_map, fresh, get_or, get_or_default, HoldsAt, inl, inr}
 use Rattle.verdicts.proofs.Common.{IsBinarySearchResult, IsNonDecreasingBy, IsSearchInRange, IsTrue, length, Life}
 use Rattle.verdicts.proofs.Common.{LineDid, lines_of, LinesCover, List, MatchBool, MatchOption, MatchResult, max}
@@ -19,15 +20,18 @@ use Rattle.claims.specs.Showing.{ComesBefore}
 -- ---- operations looked up by their calls
 
 -- in a list with rising calls, no later operation has a lower call
-calls_do_not_fall : (operations : List Operation) (i j : ℕ) (d : Operation) → CallsRise operations → i ≤ j → j < length operations
+calls_do_not_fall : (operations : List Operation) (i j : ℕ) (d : Operation) → CallsRise operations → i ≤ j
+    → j < length operations
     → (get_or operations i d).call ≤ (get_or operations j d).call
 calls_do_not_fall operations i j d rise le within = grind (arith, rise i j d)
 
-comparisons_rise : (operations : List Operation) (call : ℕ) → CallsRise operations → IsNonDecreasingBy (λ o. ordering_index (nat_cmp o.call call)) operations
+comparisons_rise : (operations : List Operation) (call : ℕ) → CallsRise operations
+    → IsNonDecreasingBy (λ o. ordering_index (nat_cmp o.call call)) operations
 comparisons_rise operations call rise i j d le within = let calls = calls_do_not_fall operations i j d rise le within in grind (arith, nat_tests)
 
 -- a binary search finds the operation with this call, or there is none
-pub searched_by_call : (operations : List Operation) (call : ℕ) (r : Result ℕ ℕ) → CallsRise operations → IsSearchInRange r (length operations)
+pub searched_by_call : (operations : List Operation) (call : ℕ) (r : Result ℕ ℕ) → CallsRise operations
+    → IsSearchInRange r (length operations)
     → IsBinarySearchResult (λ o. nat_cmp o.call call) operations r
     → MatchResult r (λ i. (i < length operations) × ((d : Operation) → (get_or operations i d).call ≡ call))
     (λ _. (k : ℕ) (d : Operation) → k < length operations → (get_or operations k d).call ≢ call)
@@ -40,12 +44,14 @@ searched_by_call operations call (Err i) rise in_range parted =
     ]
 
 -- operations with the same call have the same place
-pub one_place_of_call : (operations : List Operation) (i j : ℕ) (d : Operation) → CallsRise operations → i < length operations → j < length operations
+pub one_place_of_call : (operations : List Operation) (i j : ℕ) (d : Operation) → CallsRise operations
+    → i < length operations → j < length operations
     → (get_or operations i d).call ≡ (get_or operations j d).call → i ≡ j
 one_place_of_call operations i j d rise within_i within_j same = grind (arith, rise i j d, rise j i d)
 
 -- an operation is in the list if and only if it is at the place of its call
-pub stands_at_its_call : (operations : List Operation) (o d : Operation) (i : ℕ) → CallsRise operations → i < length operations
+pub stands_at_its_call : (operations : List Operation) (o d : Operation) (i : ℕ) → CallsRise operations
+    → i < length operations
     → (get_or operations i d).call ≡ o.call → (get_or operations i d ≡ o) ↔ Contains operations o
 stands_at_its_call operations o d i rise within same = (
   λ here. (i, within, sym (get_or_default operations i d o within) ∙ here),
@@ -69,7 +75,8 @@ none_did_from_cases operations kind false some = (
     nobody = record { call = 0; ret = 0; thread = 0; kind = kind }
 
 -- the lines of lives don't begin with a dequeue
-no_dequeue_first : (d : Operation) (rest : List Operation) (cover : List Life) (v : ℕ) → d.kind ≡ Dequeue v → AreLives cover
+no_dequeue_first : (d : Operation) (rest : List Operation) (cover : List Life) (v : ℕ) → d.kind ≡ Dequeue v
+    → AreLives cover
     → d ∷ rest ≡ flat_map operations_of_life cover → ⊥
 no_dequeue_first d rest [] v is lives same = absurd (cc)
 no_dequeue_first d rest (life ∷ cover) v is lives same =
@@ -87,7 +94,8 @@ one_dequeue (Some d) None xs ys is is' lives lives' same = absurd (no_dequeue_fi
 one_dequeue (Some d) (Some d') xs ys is is' lives lives' same =
     let one : d ≡ d' = cc in let rest : flat_map operations_of_life xs ≡ flat_map operations_of_life ys = cc in (ap (λ o. Some o) one, rest)
 
-one_cover : (xs ys : List Life) → AreLives xs → AreLives ys → flat_map operations_of_life xs ≡ flat_map operations_of_life ys → xs ≡ ys
+one_cover : (xs ys : List Life) → AreLives xs → AreLives ys
+    → flat_map operations_of_life xs ≡ flat_map operations_of_life ys → xs ≡ ys
 one_cover [] [] lives lives' same = refl
 one_cover (x ∷ xs) (y ∷ ys) lives lives' same =
     let enqueues : enqueue_of x ≡ enqueue_of y = cc in
@@ -103,7 +111,8 @@ one_maybe (Some d) (Some d') same = cc
 one_maybe _ _ same = cc
 
 -- pairs of values with the same lines are equal, if the second value of each is dequeued
-one_pair : (a b a' b' : Life) → dequeue_call b < NEVER → dequeue_call b' < NEVER → lines_of (order a b) ≡ lines_of (order a' b') → order a b ≡ order a' b'
+one_pair : (a b a' b' : Life) → dequeue_call b < NEVER → dequeue_call b' < NEVER
+    → lines_of (order a b) ≡ lines_of (order a' b') → order a b ≡ order a' b'
 one_pair a b a' b' called called' lines =
     let (d, at) = dequeued_if_called b called in
     let (d', at') = dequeued_if_called b' called' in
@@ -115,7 +124,8 @@ one_pair a b a' b' called called' lines =
     let last = one_maybe (dequeue_of a) (dequeue_of a') (cc) in
     λ i. order (record { enqueue = first i; dequeue = last i }) (record { enqueue = second i; dequeue = one i })
 
-cover_lives : (history : Contents) (empty : Operation) (cover : List Life) → CoversFrom (course_of history) empty empty.call cover → AreLives cover
+cover_lives : (history : Contents) (empty : Operation) (cover : List Life)
+    → CoversFrom (course_of history) empty empty.call cover → AreLives cover
 cover_lives history empty cover covers = covers_are_lives (timeline history.initial history.operations) empty empty.call cover
     (covers_of (course_of history) (on (timeline history.initial history.operations)) (course_on history.initial history.operations) empty empty.call cover covers)
 
@@ -144,7 +154,8 @@ get_drop (v ∷ values) zero i = let same : i ≡ 0 + i = omega arith in ap (sli
 get_drop (v ∷ values) (suc n) i = let same : suc (n + i) ≡ suc n + i = omega arith in get_drop values n i ∙ ap (slice_get (v ∷ values)) same
 
 -- a value is after the first place of another if and only if it comes after it
-pub comes_after_first : (values : List ℕ) (v w place : ℕ) → slice_get values place ≡ Some v → ((i : ℕ) → i < place → slice_get values i ≢ Some v)
+pub comes_after_first : (values : List ℕ) (v w place : ℕ) → slice_get values place ≡ Some v
+    → ((i : ℕ) → i < place → slice_get values i ≢ Some v)
     → Contains (drop (place + 1) values) w ↔ ComesBefore values v w
 comes_after_first values v w place at none = (
   λ among.
@@ -160,7 +171,8 @@ comes_after_first values v w place at none = (
 -- ---- the walk along the lines of a cover
 
 -- lines with a further value are a cover if and only if the later ones are
-pub more_lines_cover : (initial : List ℕ) (operations : List Operation) (empty line : ClaimLine) (lines : List ClaimLine) (d : ClaimLine)
+pub more_lines_cover : (initial : List ℕ) (operations : List Operation) (empty line : ClaimLine)
+    (lines : List ClaimLine) (d : ClaimLine)
     → 3 ≤ length lines
     → ((v : ℕ) × EnqueuedBefore initial operations line (get_or lines 0 d) v × LineDid initial operations (get_or lines 1 d) (Dequeue v))
     → LinesCover initial operations empty (get_or lines 1 d) (drop 2 lines) ↔ LinesCover initial operations empty line lines
@@ -177,7 +189,8 @@ pub record HasExtended (lines : List Operation) (n greatest : ℕ) : Type 0 wher
   pub is_one : (greatest ≡ 0) ⊎ ((k : ℕ) × (k < n) × ((d : Operation) → (get_or lines k d).call ≡ greatest))
 
 -- one more line, which extends precedence
-pub extended_at : (lines : List Operation) (n greatest : ℕ) (e : Operation) → n < length lines → greatest ≤ (get_or lines n e).ret
+pub extended_at : (lines : List Operation) (n greatest : ℕ) (e : Operation) → n < length lines
+    → greatest ≤ (get_or lines n e).ret
     → HasExtended lines n greatest → HasExtended lines (n + 1) (max greatest (get_or lines n e).call)
 extended_at lines n greatest e within past h = record { none_precedes = none; at_most = below; is_one = one }
   where
@@ -193,7 +206,8 @@ extended_at lines n greatest e within past h = record { none_precedes = none; at
     below : (k : ℕ) (d : Operation) → k < n + 1 → (get_or lines k d).call ≤ max greatest line.call
     below k d within = grind (arith, h.at_most k d, here d)
 
-    one : (max greatest line.call ≡ 0) ⊎ ((k : ℕ) × (k < n + 1) × ((d : Operation) → (get_or lines k d).call ≡ max greatest line.call))
+    one : (max greatest line.call ≡ 0)
+        ⊎ ((k : ℕ) × (k < n + 1) × ((d : Operation) → (get_or lines k d).call ≡ max greatest line.call))
     one = elim (cases_lt greatest line.call) [
       | inl less ↦ inr (n, omega arith, λ d. rw (here d) (omega arith))
       | inr more ↦ elim h.is_one [

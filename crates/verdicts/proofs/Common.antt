@@ -48,7 +48,8 @@ pub use Rattle.history_merge.specs.Legal.{ArePlacesOf, IsLegalOrder, IsLineariza
 pub use Rattle.history_merge.specs.Operations.{Did, IsAt, NoneDid, operation_of, operations_of, Precedes}
 pub use Rattle.history_merge.specs.Queue.{accept, accept_all, IsAccepted}
 pub use Rattle.history_merge.specs.declared.operation.OpKind.{OpKind}
-pub use Rattle.history_merge.specs.declared.operation.OpKind.TheVariants.{Dequeue, DequeueEmpty, Enqueue, EnqueueFailed}
+pub use Rattle.history_merge.specs.declared.operation.OpKind.TheVariants.{Dequeue, DequeueEmpty, Enqueue}
+pub use Rattle.history_merge.specs.declared.operation.OpKind.TheVariants.{EnqueueFailed}
 pub use Rattle.history_merge.specs.declared.operation.Operation.{Operation}
 pub use Rattle.history_merge.proofs.Distinct.{call_before_return, call_by_return, calls_rise, CallsFor, contains_at}
 pub use Rattle.history_merge.proofs.Distinct.{contains_cons, no_enqueue, not_in_none, one_at, operation_within}
@@ -83,7 +84,8 @@ pub use Rattle.value_match.specs.declared.violation.CoverStep.{CoverStep}
 pub use Rattle.value_match.specs.declared.life.Source.{Source}
 pub use Rattle.value_match.specs.declared.violation.Violation.{Violation}
 pub use Rattle.value_match.proofs.HistoryPlaces.{AreLives, course_on, covers_are_lives, dequeues, enqueue_place}
-pub use Rattle.value_match.proofs.HistoryPlaces.{enqueue_stands, few_initial, mapped_option, operation_on, same_operation}
+pub use Rattle.value_match.proofs.HistoryPlaces.{enqueue_stands, few_initial, mapped_option, operation_on}
+pub use Rattle.value_match.proofs.HistoryPlaces.{same_operation}
 pub use Rattle.value_match.proofs.HistoryPlaces.{source_on, timeline_at, timeline_of_history}
 pub use Rattle.value_match.proofs.Lists.{keeps, kept, mapped_from, mapped_to, one_deeper, passed_filter, passes_filter}
 pub use Rattle.value_match.proofs.Lives.{dequeued_if_called, one_life_of_enqueue}

@@ -1,6 +1,7 @@
 -- Without any one of its values, a chosen cover leaves a gap of the window open.
 use Rattle.verdicts.proofs.Common.{[], ap, arith, Bool, call_or_never, Contains, contains_cons, Covers, Dequeue}
-use Rattle.verdicts.proofs.Common.{dequeue_call, dequeued_if_called, Did, DequeueEmpty, Enqueue, enqueue_of, enqueue_return}
+use Rattle.verdicts.proofs.Common.{dequeue_call, dequeued_if_called, Did, DequeueEmpty, Enqueue, enqueue_of}
+use Rattle.verdicts.proofs.Common.{enqueue_return}
 use Rattle.verdicts.proofs.Common.{false, inl, inr, IsChosenCoverFrom, IsClear, IsCovered, IsLife, IsNextOfCover, Life}
 use Rattle.verdicts.proofs.Common.{List, ltb-false, MatchBool, MatchOption, nat_lt, no_enqueue, NoneDid, not_in_none}
 use Rattle.verdicts.proofs.Common.{on, Operation, refl, return_differs_from_call, return_in_range, subst, sym, true, ℕ}
@@ -16,14 +17,16 @@ match_then false q first second = second q
 
 module _ (operations : List Operation) (empty : Operation) where
   -- if a value of the cover isn't the last, the others are chosen from its dequeue on
-  others_chosen : (life : Life) (rest : List Life) (y : Life) → Contains rest y → (b : Bool) → nat_lt empty.ret (dequeue_call life) ≡ b
+  others_chosen : (life : Life) (rest : List Life) (y : Life) → Contains rest y → (b : Bool)
+      → nat_lt empty.ret (dequeue_call life) ≡ b
       → MatchBool b (rest ≡ []) (IsChosenCoverFrom (on operations) empty (dequeue_call life) rest)
       → (dequeue_call life ≤ empty.ret) × IsChosenCoverFrom (on operations) empty (dequeue_call life) rest
   others_chosen life rest y among true test ends = absurd (not_in_none y (subst (λ lives. Contains lives y) ends among))
   others_chosen life rest y among false test further = (ltb-false empty.ret (dequeue_call life) test, further)
 
   -- the values of a chosen cover are lives of the history
-  pub chosen_are_lives : (cover : List Life) (frontier : ℕ) (y : Life) → IsChosenCoverFrom (on operations) empty frontier cover → Contains cover y
+  pub chosen_are_lives : (cover : List Life) (frontier : ℕ) (y : Life)
+      → IsChosenCoverFrom (on operations) empty frontier cover → Contains cover y
       → IsLife (on operations) y
   chosen_are_lives [] frontier y chosen among = absurd chosen
   chosen_are_lives (life ∷ rest) frontier y chosen among = elim (contains_cons life rest y among) [
@@ -31,7 +34,8 @@ module _ (operations : List Operation) (empty : Operation) where
     | inr later ↦ chosen_are_lives rest (dequeue_call life) y (others_chosen life rest y later (nat_lt empty.ret (dequeue_call life)) refl chosen.1).1 later
   ]
 
-  module _ (clear : IsClear (on operations)) (did : Did operations empty DequeueEmpty) (covered : IsCovered (on operations) empty) where
+  module _ (clear : IsClear (on operations)) (did : Did operations empty DequeueEmpty)
+      (covered : IsCovered (on operations) empty) where
     -- an operation called inside the window of the empty dequeue
     pub record IsCalledInside (before : Operation) : Type 0 where
       pub among : Contains operations before
@@ -39,13 +43,15 @@ module _ (operations : List Operation) (empty : Operation) where
       pub before_return : before.call < empty.ret
       pub is_other : (v : ℕ) → before.kind ≢ Enqueue v
 
-    enters_before : (before : Operation) (life : Life) → IsCalledInside before → IsLife (on operations) life → Covers life before.call
+    enters_before : (before : Operation) (life : Life) → IsCalledInside before → IsLife (on operations) life
+        → Covers life before.call
         → enqueue_return life < before.call
     enters_before before life inside is covers =
         below_if_not_same (enqueue_return life) before.call covers.0 (return_differs_from_call operations
         (enqueue_of life) before clear.complete is.1.0 inside.among inside.is_other)
 
-    next_stays : (before : Operation) (life : Life) → IsCalledInside before → IsNextOfCover (on operations) before.call life → before.call < dequeue_call life
+    next_stays : (before : Operation) (life : Life) → IsCalledInside before
+        → IsNextOfCover (on operations) before.call life → before.call < dequeue_call life
     next_stays before life inside next =
         let z = covered before.call (inside.after_call, inside.before_return) in
         let stays = next.longest z.0 z.1 (enters_before before z.0 inside z.1 z.2) in
@@ -58,7 +64,8 @@ module _ (operations : List Operation) (empty : Operation) where
       pub further : IsChosenCoverFrom (on operations) empty d.call rest
 
     pub handover : (before : Operation) (life : Life) (rest : List Life) (y : Life) → IsCalledInside before
-        → IsChosenCoverFrom (on operations) empty before.call (life ∷ rest) → Contains rest y → (d : Operation) × IsHandover life rest d
+        → IsChosenCoverFrom (on operations) empty before.call (life ∷ rest) → Contains rest y
+        → (d : Operation) × IsHandover life rest d
     handover before life rest y inside chosen among =
         let others = others_chosen life rest y among (nat_lt empty.ret (dequeue_call life)) refl chosen.1 in
         let range = return_in_range operations empty clear.complete did.0 in
@@ -79,7 +86,8 @@ module _ (operations : List Operation) (empty : Operation) where
           },
         )
 
-    pub all_stay : (cover : List Life) (before : Operation) (y : Life) → IsCalledInside before → IsChosenCoverFrom (on operations) empty before.call cover
+    pub all_stay : (cover : List Life) (before : Operation) (y : Life) → IsCalledInside before
+        → IsChosenCoverFrom (on operations) empty before.call cover
         → Contains cover y → before.call < dequeue_call y
     all_stay [] before y inside chosen among = absurd chosen
     all_stay (life ∷ rest) before y inside chosen among = elim (contains_cons life rest y among) [
@@ -98,7 +106,8 @@ module _ (operations : List Operation) (empty : Operation) where
       pub no_other : (y : Life) → Contains cover y → Covers y c → y ≡ x
 
     -- without x the cover leaves a gap of the window open
-    pub left_by : (cover : List Life) (before : Operation) (x : Life) → IsCalledInside before → IsChosenCoverFrom (on operations) empty before.call cover
+    pub left_by : (cover : List Life) (before : Operation) (x : Life) → IsCalledInside before
+        → IsChosenCoverFrom (on operations) empty before.call cover
         → Contains cover x → (c : ℕ) × IsLeftBy cover before.call x c
     left_by [] before x inside chosen among = absurd chosen
     left_by (life ∷ rest) before x inside chosen among = elim (contains_cons life rest x among) [

@@ -2,14 +2,17 @@
 -- without one a linearization is built.
 use Rattle.verdicts.proofs.Common.{[], accept, accept_all, AllZip, ap, append-nil, AreComplete, AreLeastFreeGaps}
 use Rattle.verdicts.proofs.Common.{arith, call_by_return, call_or_never, cases_order, chosen_cover}
-use Rattle.verdicts.proofs.Common.{chosen_order_exists, Contains, Contains-permutation, contains_at, CoversFrom, Dequeue}
+use Rattle.verdicts.proofs.Common.{chosen_order_exists, Contains, Contains-permutation, contains_at, CoversFrom}
+use Rattle.verdicts.proofs.Common.{Dequeue}
 use Rattle.verdicts.proofs.Common.{dequeue_call, dequeue_of, dequeue_return, dequeued_if_called, Did, did_dequeue}
-use Rattle.verdicts.proofs.Common.{DequeueEmpty, Enqueue, enqueue_of, eq-eqb, few_initial, filter, fresh, FullViolation, inl, inr}
+use Rattle.verdicts.proofs.Common.{DequeueEmpty, Enqueue, enqueue_of, eq-eqb, few_initial, filter, fresh}
+use Rattle.verdicts.proofs.Common.{FullViolation, inl, inr}
 use Rattle.verdicts.proofs.Common.{is_empty_answer, IsAccepted, IsClear, IsEnqueuedTooLate, IsLeastFreeGap}
 use Rattle.verdicts.proofs.Common.{IsLegalOrder, IsLife, IsLinearizable, IsNeverEnqueued, IsOrderViolation}
 use Rattle.verdicts.proofs.Common.{IsPermutation-sym, IsRepeatViolation, IsSome, IsViolationOf, Life}
 use Rattle.verdicts.proofs.Common.{linearizable_from_exactly, List, map, mapped_option, MatchOption, no_enqueue, None}
-use Rattle.verdicts.proofs.Common.{NoneDid, NoOrderViolation, EnqueueFailed, NoWitnessViolation, on, one_deeper, Operation}
+use Rattle.verdicts.proofs.Common.{NoneDid, NoOrderViolation, EnqueueFailed, NoWitnessViolation, on, one_deeper}
+use Rattle.verdicts.proofs.Common.{Operation}
 use Rattle.verdicts.proofs.Common.{OpKind, Option, option_map, order, pairs_at, Precedes, refl, repeat}
 use Rattle.verdicts.proofs.Common.{return_or_never, rules, slice_get, slice_get-map, Some, sym, take, timeline}
 use Rattle.verdicts.proofs.Common.{witness, zero, ℕ, ◌++◌, ◌<◌, ◌∙◌, ◌∷◌, ◌≡◌, ◌≤◌, ◌⊎◌}
@@ -23,14 +26,16 @@ use Rattle.empty_witness.proofs.FreeGaps.{free_gap_or_covered}
 use Rattle.empty_witness.proofs.Answers.{is_empty_did}
 use Rattle.linearizer.proofs.OneOrder.{chosen_order_is_legal}
 
-kind_at : (xs : List Operation) (i : ℕ) (o : Operation) (k : OpKind) → slice_get xs i ≡ Some o → o.kind ≡ k → slice_get (map (λ o. o.kind) xs) i ≡ Some k
+kind_at : (xs : List Operation) (i : ℕ) (o : Operation) (k : OpKind) → slice_get xs i ≡ Some o → o.kind ≡ k
+    → slice_get (map (λ o. o.kind) xs) i ≡ Some k
 kind_at xs i o k at is = slice_get-map (λ o. o.kind) xs i ∙ ap (option_map (λ o. o.kind)) at ∙ ap (λ k. Some k) is
 
 operation_at : (xs : List Operation) (i : ℕ) (k : OpKind) → slice_get (map (λ o. o.kind) xs) i ≡ Some k
     → (o : Operation) × (slice_get xs i ≡ Some o) × (o.kind ≡ k)
 operation_at xs i k at = mapped_option (λ o. o.kind) (slice_get xs i) k (sym (slice_get-map (λ o. o.kind) xs i) ∙ at)
 
-left_queue : (start : List ℕ) (kinds : List OpKind) → IsAccepted start kinds → (left : List ℕ) × (accept_all start kinds ≡ Some left)
+left_queue : (start : List ℕ) (kinds : List OpKind) → IsAccepted start kinds
+    → (left : List ℕ) × (accept_all start kinds ≡ Some left)
 left_queue start kinds accepted = pick (accept_all start kinds) accepted
   where
     pick : (o : Option (List ℕ)) → IsSome o → (left : List ℕ) × (o ≡ Some left)
@@ -46,7 +51,8 @@ empty_queue queue next e = grind arith
 abbrev kinds_of : List Operation → List OpKind
 kinds_of listed = map (λ o. o.kind) listed
 
-module _ (operations listed : List Operation) (complete : AreComplete operations) (legal : IsLegalOrder [] operations listed) where
+module _ (operations listed : List Operation) (complete : AreComplete operations)
+    (legal : IsLegalOrder [] operations listed) where
   -- each operation of the history has a place in the order, and the order has no other
   place_of : (o : Operation) → Contains operations o → (i : ℕ) × (slice_get listed i ≡ Some o)
   place_of o is = listed_place listed o (Contains-permutation operations listed o legal.holds_each_once is)
@@ -55,7 +61,8 @@ module _ (operations listed : List Operation) (complete : AreComplete operations
   is_operation i o at = Contains-permutation listed operations o (IsPermutation-sym operations listed legal.holds_each_once) (contains_at listed i o at)
 
   -- an operation does not come before one that precedes it
-  not_later : (i j : ℕ) (x y : Operation) → slice_get listed i ≡ Some x → slice_get listed j ≡ Some y → i < j → ¬ (Precedes y x)
+  not_later : (i j : ℕ) (x y : Operation) → slice_get listed i ≡ Some x → slice_get listed j ≡ Some y → i < j
+      → ¬ (Precedes y x)
   not_later i j x y at_i at_j below before = pairs_at (λ earlier later. ¬ (Precedes later earlier)) listed i j x y legal.extends_precedence below at_i
       at_j before
 
@@ -97,7 +104,8 @@ module _ (operations listed : List Operation) (complete : AreComplete operations
   calls_it : (v : ℕ) (k : OpKind) → (k ≡ Enqueue v) ⊎ (k ≡ EnqueueFailed v) → calls_of_kind v k ≡ 1
   calls_it v k is = grind (arith, eq-eqb v v refl)
 
-  no_repeat : (i j v : ℕ) (x y : Operation) → slice_get listed i ≡ Some x → slice_get listed j ≡ Some y → x.kind ≡ Dequeue v → y.kind ≡ Dequeue v → i < j → ⊥
+  no_repeat : (i j v : ℕ) (x y : Operation) → slice_get listed i ≡ Some x → slice_get listed j ≡ Some y
+      → x.kind ≡ Dequeue v → y.kind ≡ Dequeue v → i < j → ⊥
   no_repeat i j v x y at_i at_j is_x is_y below =
       let gone = gone_at_dequeue j v y at_j is_y in
       let taken = split_at_dequeue (kinds_of listed) i j v below (kind_at listed i x (Dequeue v) at_i is_x) in
@@ -112,7 +120,8 @@ module _ (operations listed : List Operation) (complete : AreComplete operations
       let out_here = count_here v taken.0 in
       omega arith
 
-  dequeue_has_one_place : (i j v : ℕ) (x y : Operation) → slice_get listed i ≡ Some x → slice_get listed j ≡ Some y → x.kind ≡ Dequeue v → y.kind ≡ Dequeue v → i ≡ j
+  dequeue_has_one_place : (i j v : ℕ) (x y : Operation) → slice_get listed i ≡ Some x → slice_get listed j ≡ Some y
+      → x.kind ≡ Dequeue v → y.kind ≡ Dequeue v → i ≡ j
   dequeue_has_one_place i j v x y at_i at_j is_x is_y = elim (cases_order i j) [
     | inl same ↦ same
     | inr (inl below) ↦ absurd (no_repeat i j v x y at_i at_j is_x is_y below)
@@ -120,7 +129,8 @@ module _ (operations listed : List Operation) (complete : AreComplete operations
   ]
 
   -- any dequeue of a value is the one at the place of a dequeue of it
-  stands_there : (i v : ℕ) (o d : Operation) → slice_get listed i ≡ Some o → o.kind ≡ Dequeue v → Did operations d (Dequeue v) → slice_get listed i ≡ Some d
+  stands_there : (i v : ℕ) (o d : Operation) → slice_get listed i ≡ Some o → o.kind ≡ Dequeue v
+      → Did operations d (Dequeue v) → slice_get listed i ≡ Some d
   stands_there i v o d at is did =
       let there = place_of d did.0 in ap (slice_get listed) (dequeue_has_one_place i there.0 v o d at there.1 is did.1) ∙ there.1
 
@@ -162,7 +172,8 @@ module _ (operations listed : List Operation) (complete : AreComplete operations
       omega arith
 
   -- if a is enqueued before b, the dequeue of a comes before that of b
-  dequeued_before : (i j k a b : ℕ) (x y z : Operation) → slice_get listed i ≡ Some x → x.kind ≡ Enqueue a → slice_get listed j ≡ Some y → y.kind ≡ Enqueue b
+  dequeued_before : (i j k a b : ℕ) (x y z : Operation) → slice_get listed i ≡ Some x → x.kind ≡ Enqueue a
+      → slice_get listed j ≡ Some y → y.kind ≡ Enqueue b
       → slice_get listed k ≡ Some z → z.kind ≡ Dequeue b → i < j → j < k → StandsBefore (kinds_of listed) k (Dequeue a)
   dequeued_before i j k a b x y z at_x is_x at_y is_y at_z is_z first below =
       let gone = gone_at_dequeue k b z at_z is_z in
@@ -178,7 +189,8 @@ module _ (operations listed : List Operation) (complete : AreComplete operations
       rw (← fronts, put_a.1) (Member-right a (enqueued (take i (kinds_of listed))) (a ∷ put_a.0) (inl refl)) in
       dequeue_of_member (kinds_of listed) k a member
 
-  enqueues_differ : (i j : ℕ) (x y : Operation) → slice_get listed i ≡ Some x → slice_get listed j ≡ Some y → Precedes x y → i < j
+  enqueues_differ : (i j : ℕ) (x y : Operation) → slice_get listed i ≡ Some x → slice_get listed j ≡ Some y
+      → Precedes x y → i < j
   enqueues_differ i j x y at_x at_y precedes = elim (cases_order i j) [
     | inl same ↦
         let one : x ≡ y = some_injective (sym at_x ∙ ap (slice_get listed) same ∙ at_y) in
@@ -190,8 +202,10 @@ module _ (operations listed : List Operation) (complete : AreComplete operations
   ]
 
   -- a dequeue of a value that comes before an operation wasn't called after it; each dequeued value has one dequeue
-  not_left_later : (v time : ℕ) (prior : Operation) (named : Option Operation) → MatchOption named (NoneDid operations (Dequeue v)) (λ d. Did operations d (Dequeue v))
-      → prior.ret ≡ time → time < call_or_never named → (i k : ℕ) (o : Operation) → i < k → slice_get listed i ≡ Some o → o.kind ≡ Dequeue v
+  not_left_later : (v time : ℕ) (prior : Operation) (named : Option Operation)
+      → MatchOption named (NoneDid operations (Dequeue v)) (λ d. Did operations d (Dequeue v))
+      → prior.ret ≡ time → time < call_or_never named → (i k : ℕ) (o : Operation) → i < k → slice_get listed i ≡ Some o
+      → o.kind ≡ Dequeue v
       → slice_get listed k ≡ Some prior → ⊥
   not_left_later v time prior None none same later i k o below at is at_k = none o (is_operation i o at) is
   not_left_later v time prior (Some d) did same later i k o below at is at_k =
@@ -217,7 +231,8 @@ module _ (operations listed : List Operation) (complete : AreComplete operations
       stands.0 z.0 found.0 stands.1 found.1 found.2 z.1
 
   -- no value enqueued before an empty dequeue is still in the queue, so its dequeue comes before the empty dequeue
-  gone_at_empty : (j v : ℕ) (o : Operation) → slice_get listed j ≡ Some o → o.kind ≡ DequeueEmpty → (i : ℕ) (x : Operation) → slice_get listed i ≡ Some x
+  gone_at_empty : (j v : ℕ) (o : Operation) → slice_get listed j ≡ Some o → o.kind ≡ DequeueEmpty
+      → (i : ℕ) (x : Operation) → slice_get listed i ≡ Some x
       → x.kind ≡ Enqueue v → i < j
       → StandsBefore (kinds_of listed) j (Dequeue v)
   gone_at_empty j v o at is i x at_x is_x below =
@@ -231,7 +246,8 @@ module _ (operations listed : List Operation) (complete : AreComplete operations
 
   -- a value of a cover that is enqueued before an operation which doesn't come after the empty dequeue is dequeued
   -- before the empty dequeue
-  dequeued_first : (j : ℕ) (empty : Operation) → slice_get listed j ≡ Some empty → empty.kind ≡ DequeueEmpty → (life : Life) (is : IsLife (on operations) life)
+  dequeued_first : (j : ℕ) (empty : Operation) → slice_get listed j ≡ Some empty → empty.kind ≡ DequeueEmpty
+      → (life : Life) (is : IsLife (on operations) life)
       (p : ℕ) (prior : Operation) → slice_get listed p ≡ Some prior → p ≤ j → Precedes (enqueue_of life) prior
       → (i : ℕ) × (x : Operation) × (i < j) × (slice_get listed i ≡ Some x) × (x.kind ≡ Dequeue is.0)
   dequeued_first j empty at answers life is p prior at_p near before =
@@ -241,8 +257,10 @@ module _ (operations listed : List Operation) (complete : AreComplete operations
       let found = operation_at listed stands.0 (Dequeue is.0) stands.2 in
       (stands.0, found.0, stands.1, found.1, found.2)
 
-  excludes_cover : (j : ℕ) (empty : Operation) → slice_get listed j ≡ Some empty → empty.kind ≡ DequeueEmpty → (cover : List Life) (p : ℕ) (prior : Operation)
-      → slice_get listed p ≡ Some prior → p ≤ j → (frontier : ℕ) → prior.call ≡ frontier → CoversFrom (on operations) empty frontier cover → ⊥
+  excludes_cover : (j : ℕ) (empty : Operation) → slice_get listed j ≡ Some empty → empty.kind ≡ DequeueEmpty
+      → (cover : List Life) (p : ℕ) (prior : Operation)
+      → slice_get listed p ≡ Some prior → p ≤ j → (frontier : ℕ) → prior.call ≡ frontier
+      → CoversFrom (on operations) empty frontier cover → ⊥
   excludes_cover j empty at is [] p prior at_p near frontier same covers = covers
   excludes_cover j empty at is (life ∷ []) p prior at_p near frontier same covers =
       let gone = dequeued_first j empty at is life covers.0 p prior at_p near (omega (arith, covers.1)) in
@@ -264,14 +282,16 @@ module _ (operations listed : List Operation) (complete : AreComplete operations
       excludes_cover place.0 empty place.1 violation.answers_empty.1 cover place.0 empty place.1 (omega arith) empty.call refl violation.covers
 
 -- a violation rules out each linearization
-pub violation_excludes_order : (initial : List ℕ) (operations : List Operation) (full : FullViolation) → AreComplete (timeline initial operations)
+pub violation_excludes_order : (initial : List ℕ) (operations : List Operation) (full : FullViolation)
+    → AreComplete (timeline initial operations)
     → IsViolationOf (on (timeline initial operations)) full → ¬ (IsLinearizable initial operations)
 violation_excludes_order initial operations full complete violation exists =
     let linear = (linearizable_from_exactly initial operations (few_initial initial operations complete)).0 exists in
     excludes_violation (timeline initial operations) linear.0 complete linear.1 full violation
 
 gaps_of : (operations answers : List Operation) → IsClear (on operations) → NoWitnessViolation (on operations)
-    → ((o : Operation) → Contains answers o → Did operations o DequeueEmpty) → (gaps : List ℕ) × AllZip (λ o c. IsLeastFreeGap (on operations) o c) answers gaps
+    → ((o : Operation) → Contains answers o → Did operations o DequeueEmpty)
+    → (gaps : List ℕ) × AllZip (λ o c. IsLeastFreeGap (on operations) o c) answers gaps
 gaps_of operations [] clear none each = ([], search rules)
 gaps_of operations (o ∷ answers) clear none each =
     let did = each o (zero, omega arith, refl) in
@@ -289,7 +309,8 @@ free_gaps_exist operations clear none =
     (λ o among. is_empty_did operations o among)
 
 -- without a violation there is a linearization
-pub linearizable_without_violations : (operations : List Operation) → IsClear (on operations) → NoOrderViolation (on operations) → NoWitnessViolation (on operations)
+pub linearizable_without_violations : (operations : List Operation) → IsClear (on operations)
+    → NoOrderViolation (on operations) → NoWitnessViolation (on operations)
     → IsLinearizable [] operations
 linearizable_without_violations operations clear no_order no_witness =
     let gaps = free_gaps_exist operations clear no_witness in
@@ -298,7 +319,8 @@ linearizable_without_violations operations clear no_order no_witness =
 
 -- a history without violations is linearizable from its initial values
 pub linearizable_without : (initial : List ℕ) (operations : List Operation) → AreComplete (timeline initial operations)
-    → ((full : FullViolation) → ¬ (IsViolationOf (on (timeline initial operations)) full)) → IsLinearizable initial operations
+    → ((full : FullViolation) → ¬ (IsViolationOf (on (timeline initial operations)) full))
+    → IsLinearizable initial operations
 linearizable_without initial operations complete none =
     (linearizable_from_exactly initial operations (few_initial initial operations complete)).1
     (linearizable_without_violations (timeline initial operations)

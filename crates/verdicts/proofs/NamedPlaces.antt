@@ -6,7 +6,8 @@ use Rattle.verdicts.proofs.Common.{call_in, cases_lt, chosen_of, ClaimLine, cond
 use Rattle.verdicts.proofs.Common.{Contains-append_cases, Contains-append_left, Contains-append_right}
 use Rattle.verdicts.proofs.Common.{Contains-permutation, contains_at, contains_cons, course, course_on}
 use Rattle.verdicts.proofs.Common.{covers_are_lives, CoverStep, Dequeue, dequeue_call, dequeue_of, dequeued_if_called}
-use Rattle.verdicts.proofs.Common.{dequeues, Did, DequeueEmpty, Enqueue, enqueue_of, enqueue_place, Event, false, few_initial}
+use Rattle.verdicts.proofs.Common.{dequeues, Did, DequeueEmpty, Enqueue, enqueue_of, enqueue_place, Event, false}
+use Rattle.verdicts.proofs.Common.{few_initial}
 use Rattle.verdicts.proofs.Common.{filter, flat_map, fresh, FullViolation, initial_enqueue, initial_enqueues}
 use Rattle.verdicts.proofs.Common.{initial_time, inl, inr, is_operation, IsChosenCoverFrom}
 use Rattle.verdicts.proofs.Common.{IsChosenFullViolation, IsChosenViolation, IsClear, IsCompleteHistory, IsCovered}
@@ -28,7 +29,8 @@ use Rattle.verdicts.proofs.Retiming.{lifted, lifted_late, lifted_rises, retimed,
 use Rattle.history_merge.specs.Inner.Timeline.{earlier_by}
 use Rattle.linearizer.proofs.Elements.{none_twice-filter, NoneTwice, zip_joined}
 use Rattle.claims.specs.declared.shown.LinePlace.TheVariants.{Initial, Op}
-use Rattle.value_match.proofs.HistoryPlaces.{call_told, dequeue_told, empty_told, fresh_dequeues, maybe_told, source_told}
+use Rattle.value_match.proofs.HistoryPlaces.{call_told, dequeue_told, empty_told, fresh_dequeues, maybe_told}
+use Rattle.value_match.proofs.HistoryPlaces.{source_told}
 use Rattle.value_match.specs.Inner.HistoryPlaces.{history_place, history_source}
 use Rattle.order_violation.specs.Pairs.{IsChosenPair}
 use Rattle.linearizer.specs.Order.{AreChosenAndLegal}
@@ -84,14 +86,16 @@ pub line_of_call : (o : Operation) (call : ℕ) → o.call ≡ call + ORIGIN →
 line_of_call o call is = grind (arith, nat_tests)
 
 -- the value of an operation's line, if the operations before the first ticket are successful enqueues
-pub value_of_line : (o : Operation) → (o.call < ORIGIN → (v : ℕ) × (o.kind ≡ Enqueue v)) → value_in (line_of o) ≡ value_of o.kind
+pub value_of_line : (o : Operation) → (o.call < ORIGIN → (v : ℕ) × (o.kind ≡ Enqueue v))
+    → value_in (line_of o) ≡ value_of o.kind
 value_of_line o enqueues = elim (cases_lt o.call ORIGIN) [
   | inl early ↦ let found = (enqueues early).1 in grind (arith, nat_tests)
   | inr late ↦ ap value_in (late_line o late)
 ]
 
 -- an operation of a selection's timeline has the same line as at its time in the whole
-pub same_line : (keeps : ℕ → Bool) (initial : List ℕ) → length initial ≤ MAX_INITIAL → (o : Operation) → start (filter keeps initial) ≤ o.call
+pub same_line : (keeps : ℕ → Bool) (initial : List ℕ) → length initial ≤ MAX_INITIAL → (o : Operation)
+    → start (filter keeps initial) ≤ o.call
     → o.call ≤ o.ret → line_of (retimed (lifted keeps initial) o) ≡ line_of o
 same_line keeps initial few o from called = grind (
   arith,
@@ -105,7 +109,8 @@ same_line keeps initial few o from called = grind (
 -- ---- lists, element by element
 
 -- operations at some places
-pub in_range : (operations : List Operation) (places : List ℕ) (listed : List Operation) → ArePlacesOf operations places listed
+pub in_range : (operations : List Operation) (places : List ℕ) (listed : List Operation)
+    → ArePlacesOf operations places listed
     → All (λ place. place < length operations) places
 in_range operations [] listed named = All-nil (λ place. place < length operations)
 in_range operations (p ∷ places) [] named = cc
@@ -131,7 +136,8 @@ module _ (initial : List ℕ) (operations : List Operation) (few : length initia
       let same : line_of o ≡ line.Op x = ap line_of (sym is) ∙ later_line x in
       (ap (option_map line.Op) stands ∙ ap (λ l. Some l) (sym same), contains_at all (k + p) o (operation_on initial operations p o at))
 
-  source_shown : (s : Source) (o : Operation) → IsSource initial operations s o → IsShownAt initial operations (place_of_source s) o
+  source_shown : (s : Source) (o : Operation) → IsSource initial operations s o
+      → IsShownAt initial operations (place_of_source s) o
   source_shown (source.Enq p) o at = shown_at p o at
   source_shown (source.Initial p) o at =
       let (v, stands, is) = mapped_option (initial_enqueue k p) (slice_get initial p) o at in
@@ -141,7 +147,8 @@ module _ (initial : List ℕ) (operations : List Operation) (few : length initia
       let same : line_of o ≡ line.Initial v = early_line o (omega arith) ∙ ap line.Initial (sym value) in
       (ap (option_map line.Initial) stands ∙ ap (λ l. Some l) (sym same), contains_at all p o (source_on initial operations (source.Initial p) o at))
 
-  maybe_shown : (p : Option ℕ) (o : Option Operation) → IsMaybeOperation operations p o → AllZip (IsShownAt initial operations) (maybe_place p) (option_to_list o)
+  maybe_shown : (p : Option ℕ) (o : Option Operation) → IsMaybeOperation operations p o
+      → AllZip (IsShownAt initial operations) (maybe_place p) (option_to_list o)
   maybe_shown None None at = tt
   maybe_shown (Some p) (Some o) at = (shown_at p o at, tt)
   maybe_shown _ _ at = absurd at
@@ -175,7 +182,8 @@ module _ (initial : List ℕ) (operations : List Operation) (few : length initia
   each_shown _ _ names = absurd names
 
   -- the lines at the places are those of the operations
-  pub shown_lines : (places : List LinePlace) (listed : List Operation) → AllZip (IsShownAt initial operations) places listed
+  pub shown_lines : (places : List LinePlace) (listed : List Operation)
+      → AllZip (IsShownAt initial operations) places listed
       → lines_at initial operations places ≡ map line_of listed
   shown_lines [] [] each = refl
   shown_lines (p ∷ places) (o ∷ listed) each =
@@ -184,25 +192,29 @@ module _ (initial : List ℕ) (operations : List Operation) (few : length initia
   shown_lines _ _ each = absurd each
 
   -- if there is a line at a place, there is an operation or an initial value
-  place_within : (place : LinePlace) (l : ClaimLine) → line_at initial operations place ≡ Some l → IsPlaceWithin initial operations place
+  place_within : (place : LinePlace) (l : ClaimLine) → line_at initial operations place ≡ Some l
+      → IsPlaceWithin initial operations place
   place_within (Op p) l at = let o = mapped_option line.Op (slice_get operations p) l at in slice_get_within operations p o.0 o.1
   place_within (Initial p) l at = let v = mapped_option line.Initial (slice_get initial p) l at in slice_get_within initial p v.0 v.1
 
   -- the places of lines that are shown are within the history
-  pub all_within : (places : List LinePlace) (listed : List Operation) → AllZip (IsShownAt initial operations) places listed → All (IsPlaceWithin initial operations) places
+  pub all_within : (places : List LinePlace) (listed : List Operation)
+      → AllZip (IsShownAt initial operations) places listed → All (IsPlaceWithin initial operations) places
   all_within [] [] each = All-nil (IsPlaceWithin initial operations)
   all_within (p ∷ places) (o ∷ listed) each =
       All-cons (IsPlaceWithin initial operations) p places (place_within p (line_of o) each.0.0) (all_within places listed each.1)
   all_within _ _ each = absurd each
 
-  line_held : {A : Type 0} (as_line : A → ClaimLine) (xs : List A) (p : ℕ) (l : ClaimLine) → option_map as_line (slice_get xs p) ≡ Some l
+  line_held : {A : Type 0} (as_line : A → ClaimLine) (xs : List A) (p : ℕ) (l : ClaimLine)
+      → option_map as_line (slice_get xs p) ≡ Some l
       → Contains (map as_line xs) l
   line_held as_line xs p l at =
       let x = mapped_option as_line (slice_get xs p) l at in
       subst (Contains (map as_line xs)) x.2 (mapped_to as_line xs x.0 (contains_at xs p x.0 x.1))
 
   -- the line at a place is one of the history
-  pub line_there : (place : LinePlace) (l : ClaimLine) → line_at initial operations place ≡ Some l → Contains (lines_of_history initial operations) l
+  pub line_there : (place : LinePlace) (l : ClaimLine) → line_at initial operations place ≡ Some l
+      → Contains (lines_of_history initial operations) l
   line_there (Op p) l at = Contains-append_right (map line.Initial initial) (map line.Op operations) l (line_held line.Op operations p l at)
   line_there (Initial p) l at = Contains-append_left (map line.Initial initial) (map line.Op operations) l (line_held line.Initial initial p l at)
 
@@ -214,7 +226,8 @@ module _ (initial : List ℕ) (operations : List Operation) (few : length initia
   maybe_at None among = (None, tt)
   maybe_at (Some d) among = let at = place_of all d (among d (zero, omega arith, refl)) in (Some at.0, at.1)
 
-  life_at : (life : Life) → MatchOption (dequeue_of life) ⊤ (λ d. (v : ℕ) × (d.kind ≡ Dequeue v)) → AreAmong (operations_of_life life)
+  life_at : (life : Life) → MatchOption (dequeue_of life) ⊤ (λ d. (v : ℕ) × (d.kind ≡ Dequeue v))
+      → AreAmong (operations_of_life life)
       → (step : CoverStep) × IsNamed initial operations step.source step.dequeue life
   life_at life ends among =
       let enqueue = place_of all (enqueue_of life) (among (enqueue_of life) (zero, omega arith, refl)) in
@@ -235,21 +248,24 @@ module _ (initial : List ℕ) (operations : List Operation) (few : length initia
       (first.0 ∷ rest.0, (first.1, rest.1))
 
   -- a dequeued value has a place of its dequeue
-  dequeued_at : (step : CoverStep) (life : Life) → IsNamed initial operations step.source step.dequeue life → dequeue_call life < NEVER
+  dequeued_at : (step : CoverStep) (life : Life) → IsNamed initial operations step.source step.dequeue life
+      → dequeue_call life < NEVER
       → (p : ℕ) × IsNamed initial operations step.source (Some p) life
   dequeued_at step life names called =
       let d = dequeued_if_called life called in
       let found = place_there step.dequeue (dequeue_of life) d.0 names.1 d.1 in
       (found.0, (names.0, subst (λ p. IsMaybeOperation operations p (dequeue_of life)) found.1 names.1))
     where
-      place_there : (place : Option ℕ) (o : Option Operation) (d : Operation) → IsMaybeOperation operations place o → o ≡ Some d
+      place_there : (place : Option ℕ) (o : Option Operation) (d : Operation) → IsMaybeOperation operations place o
+          → o ≡ Some d
           → (p : ℕ) × (place ≡ Some p)
       place_there (Some p) o d at is = (p, refl)
       place_there None None d at is = cc
       place_there None (Some e) d at is = absurd at
 
   -- a violation has places
-  pub violation_at : (full : FullViolation) → IsViolationOf (on (timeline initial operations)) full → AreAmong (lines_of full)
+  pub violation_at : (full : FullViolation) → IsViolationOf (on (timeline initial operations)) full
+      → AreAmong (lines_of full)
       → (found : Violation) × Names initial operations found full
   violation_at (fresh deq enq) is among =
       let d = place_of all deq (among deq (zero, omega arith, refl)) in
@@ -283,7 +299,8 @@ module _ (initial : List ℕ) (operations : List Operation) (few : length initia
 -- ---- a chosen violation decides a history, and so does a chosen order that is legal
 
 -- a chosen order decides
-pub yes_is_decided : (initial : List ℕ) (operations : List Operation) (places : List ℕ) → AreChosenAndLegal initial operations places
+pub yes_is_decided : (initial : List ℕ) (operations : List Operation) (places : List ℕ)
+    → AreChosenAndLegal initial operations places
     → IsDecided initial operations (Yes places)
 yes_is_decided initial operations places chosen = record {
   chosen = (chosen.0, chosen.1, chosen.2);
@@ -293,13 +310,16 @@ yes_is_decided initial operations places chosen = record {
 }
 
 -- the chosen pair is the chosen violation if the first two kinds are absent
-pub pair_is_chosen : (initial : List ℕ) (operations : List Operation) (pair : OrderPair) → IsClear (course initial operations)
-    → IsChosenPair initial operations pair → IsChosenViolation initial operations (violation.Order pair.enq_a pair.enq_b pair.deq_b pair.deq_a)
+pub pair_is_chosen : (initial : List ℕ) (operations : List Operation) (pair : OrderPair)
+    → IsClear (course initial operations)
+    → IsChosenPair initial operations pair
+    → IsChosenViolation initial operations (violation.Order pair.enq_a pair.enq_b pair.deq_b pair.deq_a)
 pair_is_chosen initial operations pair clear is =
     (order is.a is.b, is.names, (clear.no_fresh, clear.no_repeat, is.is_chosen))
 
 -- the chosen empty dequeue with its cover is the chosen violation if the first three kinds are absent
-pub witness_is_chosen : (initial : List ℕ) (operations : List Operation) (empty : ℕ) (cover : List CoverStep) → IsClear (course initial operations)
+pub witness_is_chosen : (initial : List ℕ) (operations : List Operation) (empty : ℕ) (cover : List CoverStep)
+    → IsClear (course initial operations)
     → NoOrderViolation (course initial operations) → IsWitnessAnswer initial operations (found.Covered empty cover)
     → IsChosenViolation initial operations (violation.Witness empty cover)
 witness_is_chosen initial operations empty cover clear none is = (witness is.0 is.1, (is.2, is.3), (clear.no_fresh, clear.no_repeat, none, is.4))
@@ -312,7 +332,8 @@ events_told events complete =
     ap events_of (sym (all_formed events complete)) ∙ told_of_run events _ (run_of_complete events complete)
 
 -- parts of one complete history are equal if they are complete and have the same operations
-pub part_is_one : (events xs ys : List Event) → IsCompleteHistory events → ArePartOf events xs → ArePartOf events ys → IsCompleteHistory xs
+pub part_is_one : (events xs ys : List Event) → IsCompleteHistory events → ArePartOf events xs → ArePartOf events ys
+    → IsCompleteHistory xs
     → IsCompleteHistory ys → operations_of xs ≡ operations_of ys → xs ≡ ys
 part_is_one events xs ys complete part_x part_y complete_x complete_y same =
     sym (events_told xs complete_x) ∙ ap events_of same ∙ events_told ys complete_y
@@ -320,7 +341,8 @@ part_is_one events xs ys complete part_x part_y complete_x complete_y same =
 -- ---- lists without repetition
 
 -- a list without repetition is no longer than a list that has its elements
-no_more : {X : Type 0} (xs ys : List X) → NoneTwice xs → ((x : X) → Contains xs x → Contains ys x) → length xs ≤ length ys
+no_more : {X : Type 0} (xs ys : List X) → NoneTwice xs → ((x : X) → Contains xs x → Contains ys x)
+    → length xs ≤ length ys
 no_more [] ys once among = omega arith
 no_more {X} (x ∷ xs) ys once among =
     let at = among x (zero, omega arith, refl) in
@@ -344,7 +366,8 @@ all_returned (o ∷ rest) timed = grind (
 )
 
 -- a history has two events for each operation
-two_events : (events : List Event) → IsCompleteHistory events → length events ≡ length (operations_of events) + length (operations_of events)
+two_events : (events : List Event) → IsCompleteHistory events
+    → length events ≡ length (operations_of events) + length (operations_of events)
 two_events events complete =
     let told = ap length (events_told events complete) in
     let each = length-events_of (operations_of events) in
@@ -368,14 +391,16 @@ module _ (operations : List Operation) (empty : Operation) (clear : IsClear (on 
       )
 
 -- a chosen violation has at most four lines, or its lines have no repetition
-few_or_once : (operations : List Operation) (full : FullViolation) → AreComplete operations → IsChosenFullViolation (on operations) full
+few_or_once : (operations : List Operation) (full : FullViolation) → AreComplete operations
+    → IsChosenFullViolation (on operations) full
     → (length (lines_of full) ≤ 4) ⊎ NoneTwice (lines_of full)
 few_or_once operations (fresh deq None) complete chosen = inl (omega arith)
 few_or_once operations (fresh deq (Some enq)) complete chosen = inl (omega arith)
 few_or_once operations (repeat enq first second) complete chosen = inl (omega arith)
 few_or_once operations (order a b) complete chosen = inl (two_lives (dequeue_of a) (dequeue_of b))
   where
-    two_lives : (d e : Option Operation) → length (enqueue_of a ∷ enqueue_of b ∷ (option_to_list e ++ option_to_list d)) ≤ 4
+    two_lives : (d e : Option Operation)
+        → length (enqueue_of a ∷ enqueue_of b ∷ (option_to_list e ++ option_to_list d)) ≤ 4
     two_lives None None = omega arith
     two_lives None (Some e) = omega arith
     two_lives (Some d) None = omega arith
@@ -407,7 +432,8 @@ line_is_operation (line.Op o) = true
 line_is_operation (line.Initial v) = false
 
 module _ (initial : List ℕ) (operations : List Operation) where
-  of_place : (p : LinePlace) (l : ClaimLine) → line_at initial operations p ≡ Some l → is_operation p ≡ line_is_operation l
+  of_place : (p : LinePlace) (l : ClaimLine) → line_at initial operations p ≡ Some l
+      → is_operation p ≡ line_is_operation l
   of_place (place.Op p) l at = ap line_is_operation (mapped_option line.Op (slice_get operations p) l at).2
   of_place (place.Initial p) l at = ap line_is_operation (mapped_option line.Initial (slice_get initial p) l at).2
 
@@ -423,7 +449,8 @@ module _ (initial : List ℕ) (operations : List Operation) where
   counted _ _ each = absurd each
 
 -- the operations of a timeline other than the enqueues of initial values are the history's
-own_is_later : (initial : List ℕ) (operations : List Operation) (o : Operation) → length initial ≤ MAX_INITIAL → Contains (timeline initial operations) o
+own_is_later : (initial : List ℕ) (operations : List Operation) (o : Operation) → length initial ≤ MAX_INITIAL
+    → Contains (timeline initial operations) o
     → is_own o ≡ true → Contains (map (later_by ORIGIN) operations) o
 own_is_later initial operations o few among own =
     elim (Contains-append_cases (initial_enqueues initial) (map (later_by ORIGIN) operations) o among) [
@@ -453,7 +480,8 @@ verdict_has_few_lines initial events verdict whole few_initial few_events chosen
     few = let half = two_events events whole.complete in omega (arith, few_events, half)
 
     by_verdict : (verdict : Verdict) → IsVerdict initial operations verdict
-        → (length (operations_named verdict) ≤ MAX_OPERATIONS) × (length (verdict_places verdict) ≤ MAX_OPERATIONS + length initial)
+        → (length (operations_named verdict) ≤ MAX_OPERATIONS)
+        × (length (verdict_places verdict) ≤ MAX_OPERATIONS + length initial)
     by_verdict (Yes places) is =
         let moved = length_permutation (timed operations) (timed is.0) is.2.holds_each_once in
         let long = length-map operations (later_by ORIGIN) in

@@ -1,7 +1,8 @@
 -- Each result of a search in a history is unique.
 use Rattle.verdicts.proofs.Common.{[], AllPairs, AllZip, ap, ap₂, AreComplete, ArePlacesOf, arith}
 use Rattle.verdicts.proofs.Common.{behind, cases_lt, chosen_of, Contains, Contains-permutation}
-use Rattle.verdicts.proofs.Common.{Course, course, course_on, CoverStep, dequeue_of, Did, DequeueEmpty, enqueue_of, Event}
+use Rattle.verdicts.proofs.Common.{Course, course, course_on, CoverStep, dequeue_of, Did, DequeueEmpty, enqueue_of}
+use Rattle.verdicts.proofs.Common.{Event}
 use Rattle.verdicts.proofs.Common.{filter, fresh, FullViolation, get_or, initial_enqueue, inl, inr}
 use Rattle.verdicts.proofs.Common.{is_empty_answer, IsAt, IsChosenCover, IsChosenViolation, IsClear, IsCompleteFrom}
 use Rattle.verdicts.proofs.Common.{IsCovered, IsGapAnswer, IsLeastFreeGap, IsMaybeOperation, IsNamed}
@@ -34,12 +35,14 @@ abbrev pub KeysRise : {X : Type 0} → (X → ℕ) → List X → Type 0
 KeysRise key xs = AllPairs (λ x y. key x < key y) xs
 
 -- two lists with rising keys and the same elements are equal
-pub same_lists : {X : Type 0} (key : X → ℕ) (xs ys : List X) → KeysRise key xs → KeysRise key ys → ((z : X) → Contains xs z → Contains ys z)
+pub same_lists : {X : Type 0} (key : X → ℕ) (xs ys : List X) → KeysRise key xs → KeysRise key ys
+    → ((z : X) → Contains xs z → Contains ys z)
     → ((z : X) → Contains ys z → Contains xs z) → xs ≡ ys
 same_lists key = one_list (λ x y. key x < key y) (λ x y less more. omega arith)
 
 -- a permutation, sorted by a key, of a list with rising keys is that list
-sorted_is_same : {X : Type 0} (key : X → ℕ) (xs ys : List X) → KeysRise key xs → IsPermutation xs ys → IsNonDecreasingBy key ys → ys ≡ xs
+sorted_is_same : {X : Type 0} (key : X → ℕ) (xs ys : List X) → KeysRise key xs → IsPermutation xs ys
+    → IsNonDecreasingBy key ys → ys ≡ xs
 sorted_is_same {X} key xs ys rises moved sorted =
     same_lists key ys xs rises' rises (λ z among. Contains-permutation ys xs z (IsPermutation-sym xs ys moved) among)
     (λ z among. Contains-permutation xs ys z moved among)
@@ -54,7 +57,8 @@ sorted_is_same {X} key xs ys rises moved sorted =
         ]
 
 -- sorting by a key gives a list with rising keys if and only if the elements are the same
-pub sorted_tells : {X : Type 0} (key : X → ℕ) (xs ys sorted : List X) → KeysRise key xs → IsPermutation ys sorted → IsNonDecreasingBy key sorted
+pub sorted_tells : {X : Type 0} (key : X → ℕ) (xs ys sorted : List X) → KeysRise key xs → IsPermutation ys sorted
+    → IsNonDecreasingBy key sorted
     → (sorted ≡ xs) ↔ IsPermutation xs ys
 sorted_tells {X} key xs ys sorted rises moved in_order = (
   λ same. subst (λ zs. IsPermutation zs ys) same (IsPermutation-sym ys sorted moved),
@@ -62,7 +66,8 @@ sorted_tells {X} key xs ys sorted rises moved in_order = (
 )
 
 -- a list paired with another, element by element, is unique if each element's partner is
-pub one_beside : {X Y : Type 0} (R : X → Y → Type 0) → ((x : X) (y z : Y) → R x y → R x z → y ≡ z) → (xs : List X) (ys zs : List Y)
+pub one_beside : {X Y : Type 0} (R : X → Y → Type 0) → ((x : X) (y z : Y) → R x y → R x z → y ≡ z)
+    → (xs : List X) (ys zs : List Y)
     → AllZip R xs ys → AllZip R xs zs → ys ≡ zs
 one_beside R one [] [] [] first second = refl
 one_beside {X} {Y} R one (x ∷ xs) (y ∷ ys) (z ∷ zs) first second =
@@ -72,7 +77,8 @@ one_beside R one _ _ _ first second = absurd assumption
 -- ---- each result of a search in a history is unique
 
 -- an operation has only one place
-one_place_at : (operations : List Operation) (p q : ℕ) (o : Operation) → AreComplete operations → IsAt operations p o → IsAt operations q o → p ≡ q
+one_place_at : (operations : List Operation) (p q : ℕ) (o : Operation) → AreComplete operations → IsAt operations p o
+    → IsAt operations q o → p ≡ q
 one_place_at operations p q o complete at_p at_q =
     one_place_of_key (λ x. x.call) operations operations p q o o (operations_rise operations complete) (IsPermutation-refl operations) at_p at_q refl
 
@@ -99,7 +105,8 @@ module _ (initial : List ℕ) (operations : List Operation) (is_history : IsOfHi
       let same = one_place_at all (behind k p) (behind k q) o complete (operation_on initial operations p o at_p) (operation_on initial operations q o at_q) in
       omega (arith, same)
 
-  maybe_one_place : (o : Option Operation) (p q : Option ℕ) → IsMaybeOperation operations p o → IsMaybeOperation operations q o → p ≡ q
+  maybe_one_place : (o : Option Operation) (p q : Option ℕ) → IsMaybeOperation operations p o
+      → IsMaybeOperation operations q o → p ≡ q
   maybe_one_place (Some o) (Some p) (Some q) at_p at_q = ap (λ place. Some place) (one_place p q o at_p at_q)
   maybe_one_place None None None at_p at_q = refl
   maybe_one_place _ _ _ at_p at_q = absurd assumption
@@ -108,7 +115,8 @@ module _ (initial : List ℕ) (operations : List Operation) (is_history : IsOfHi
   initial_within p o at = let (v, stands, is) = mapped_option (initial_enqueue k p) (slice_get initial p) o at in slice_get_within initial p v stands
 
   -- an enqueue has only one source
-  one_source : (s t : Source) (o : Operation) → IsSource initial operations s o → IsSource initial operations t o → s ≡ t
+  one_source : (s t : Source) (o : Operation) → IsSource initial operations s o → IsSource initial operations t o
+      → s ≡ t
   one_source s t o at_s at_t = by_place s t at_s at_t
       (one_place_at all (source_place initial operations s) (source_place initial operations t) o complete (source_on initial operations s o at_s)
       (source_on initial operations t o at_t))
@@ -120,20 +128,23 @@ module _ (initial : List ℕ) (operations : List Operation) (is_history : IsOfHi
       by_place (source.Initial p) (source.Enq q) at_p at_q same = let within = initial_within p o at_p in absurd (omega (arith, same, within))
       by_place (source.Initial p) (source.Initial q) at_p at_q same = ap source.Initial same
 
-  one_step : (p q : CoverStep) (life : Life) → IsNamed initial operations p.source p.dequeue life → IsNamed initial operations q.source q.dequeue life → p ≡ q
+  one_step : (p q : CoverStep) (life : Life) → IsNamed initial operations p.source p.dequeue life
+      → IsNamed initial operations q.source q.dequeue life → p ≡ q
   one_step p q life at_p at_q =
       let step : Source → Option ℕ → CoverStep = λ s d. record { source = s; dequeue = d } in
       ap₂ step (one_source p.source q.source (enqueue_of life) at_p.0 at_q.0)
       (maybe_one_place (dequeue_of life) p.dequeue q.dequeue at_p.1 at_q.1)
 
-  one_named_cover : (lives : List Life) (ps qs : List CoverStep) → NamesCover initial operations ps lives → NamesCover initial operations qs lives → ps ≡ qs
+  one_named_cover : (lives : List Life) (ps qs : List CoverStep) → NamesCover initial operations ps lives
+      → NamesCover initial operations qs lives → ps ≡ qs
   one_named_cover [] [] [] names_p names_q = refl
   one_named_cover (life ∷ lives) (p ∷ ps) (q ∷ qs) names_p names_q =
       ap₂ (λ (x : CoverStep) (xs : List CoverStep). x ∷ xs) (one_step p q life names_p.0 names_q.0) (one_named_cover lives ps qs names_p.1 names_q.1)
   one_named_cover _ _ _ names_p names_q = absurd assumption
 
   -- the operations of a violation are named by one list of places only
-  one_named : (full : FullViolation) (x y : Violation) → Names initial operations x full → Names initial operations y full → x ≡ y
+  one_named : (full : FullViolation) (x y : Violation) → Names initial operations x full
+      → Names initial operations y full → x ≡ y
   one_named (fresh deq enq) (violation.Fresh d e) (violation.Fresh d' e') at at' =
       ap₂ (λ (p : ℕ) (q : Option ℕ). violation.Fresh p q) (one_place d d' deq at.0 at'.0) (maybe_one_place enq e e' at.1 at'.1)
   one_named (repeat enq first second) (violation.Repeat e d f) (violation.Repeat e' d' f') at at' =
@@ -153,17 +164,20 @@ module _ (initial : List ℕ) (operations : List Operation) (is_history : IsOfHi
   one_named _ _ _ at at' = absurd assumption
 
   -- equal violations are named by the same places
-  one_violation : (x y : Violation) (b c : FullViolation) → b ≡ c → Names initial operations x b → Names initial operations y c → x ≡ y
+  one_violation : (x y : Violation) (b c : FullViolation) → b ≡ c → Names initial operations x b
+      → Names initial operations y c → x ≡ y
   one_violation x y b c same at at' = one_named c x y (subst (Names initial operations x) same at) at'
 
   -- only one violation is chosen
-  one_chosen : (x y : Violation) → IsChosenViolation initial operations x → IsChosenViolation initial operations y → x ≡ y
+  one_chosen : (x y : Violation) → IsChosenViolation initial operations x → IsChosenViolation initial operations y
+      → x ≡ y
   one_chosen x y (b, names_x, chosen_x) (c, names_y, chosen_y) =
       let there = chosen_of (course initial operations) (on all) (course_on initial operations) in
       one_violation x y b c (one_chosen_violation all b c complete (there b chosen_x) (there c chosen_y)) names_x names_y
 
 -- a history has only one chosen violation
-pub chosen_violation_is_one : (initial : List ℕ) (events : List Event) (x y : Violation) → IsCompleteFrom initial events → length initial ≤ MAX_INITIAL
+pub chosen_violation_is_one : (initial : List ℕ) (events : List Event) (x y : Violation)
+    → IsCompleteFrom initial events → length initial ≤ MAX_INITIAL
     → IsChosenViolation initial (operations_of events) x → IsChosenViolation initial (operations_of events) y → x ≡ y
 chosen_violation_is_one initial events x y complete few =
     one_chosen initial (operations_of events) (events, refl, complete, few) x y
@@ -238,7 +252,8 @@ gap_is_one initial operations place = one
     h : Course
     h = course initial operations
 
-    one : (x y : GapAnswer) → IsClear h → IsGapAnswer initial operations place x → IsGapAnswer initial operations place y → x ≡ y
+    one : (x y : GapAnswer) → IsClear h → IsGapAnswer initial operations place x
+        → IsGapAnswer initial operations place y → x ≡ y
     one (gap.Free c) (gap.Free d) clear x y =
         let same = one_at (timed operations) place x.0 y.0 x.1 y.1 in
         let gaps = one_least_gap h y.0 (time_of c) (time_of d) (subst (λ o. IsLeastFreeGap h o (time_of c)) same x.2) y.2 in
@@ -264,7 +279,8 @@ gaps_told _ _ same = cc
 
 -- if each empty dequeue has a free gap, none is covered
 none_covered : (h : Course) (gaps : List ℕ) (o : Operation)
-    → AllZip (λ o c. IsLeastFreeGap h o c) (filter is_empty_answer h.operations) gaps → Did h.operations o DequeueEmpty → IsCovered h o → ⊥
+    → AllZip (λ o c. IsLeastFreeGap h o c) (filter is_empty_answer h.operations) gaps → Did h.operations o DequeueEmpty
+    → IsCovered h o → ⊥
 none_covered h gaps o each did covered =
     let passes : is_empty_answer o ≡ true = rw did.1 refl in
     let place = place_of (filter is_empty_answer h.operations) o (passes_filter is_empty_answer h.operations o passes did.0) in

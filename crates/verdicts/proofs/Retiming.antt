@@ -4,7 +4,8 @@
 use Rattle.verdicts.proofs.Common.{[], ap, AreComplete, arith, Bool, call_before_return, call_by_return, call_or_never}
 use Rattle.verdicts.proofs.Common.{cases_lt, cond, Contains, Contains-append_cases, Contains-append_left}
 use Rattle.verdicts.proofs.Common.{Contains-append_right, contains_cons, Covers, dequeue_call, dequeue_of}
-use Rattle.verdicts.proofs.Common.{dequeue_return, dequeued_if_called, Did, did_dequeue, DequeueEmpty, Enqueue, enqueue_at}
+use Rattle.verdicts.proofs.Common.{dequeue_return, dequeued_if_called, Did, did_dequeue, DequeueEmpty, Enqueue}
+use Rattle.verdicts.proofs.Common.{enqueue_at}
 use Rattle.verdicts.proofs.Common.{enqueue_of, enqueue_place, enqueue_return, enqueues_from, eq-eqb, eqb-true, false}
 use Rattle.verdicts.proofs.Common.{filter, flat_map, fresh, FullViolation, initial_enqueues, initial_time, inl, inr}
 use Rattle.verdicts.proofs.Common.{IsChosenCoverFrom, IsChosenFullViolation, IsChosenWitness, IsClear, IsCovered}
@@ -71,7 +72,8 @@ module _ {low : ℕ} {h : ℕ → ℕ} (rises : Rises low h) where
   )
 
 -- no operation is called or returns at NEVER or later
-pub times_in_range : (operations : List Operation) (o : Operation) → AreComplete operations → Contains operations o → (o.call < NEVER) × (o.ret < NEVER)
+pub times_in_range : (operations : List Operation) (o : Operation) → AreComplete operations → Contains operations o
+    → (o.call < NEVER) × (o.ret < NEVER)
 times_in_range operations o complete among =
     let range = return_in_range operations o complete among in
     let ordered = call_by_return operations o complete among in
@@ -87,9 +89,11 @@ pub record StandsAs (values calls : ℕ → Bool) (h : ℕ → ℕ) (low : ℕ) 
   pub complete : AreComplete ys
   pub there : (o : Operation) → Contains xs o → Contains ys (retimed h o) × (selects values calls (retimed h o) ≡ true)
   pub back : Operation → Operation
-  pub brings : (o : Operation) → Contains ys o → selects values calls o ≡ true → Contains xs (back o) × (retimed h (back o) ≡ o)
+  pub brings : (o : Operation) → Contains ys o → selects values calls o ≡ true
+      → Contains xs (back o) × (retimed h (back o) ≡ o)
 
-module _ {values calls : ℕ → Bool} {h : ℕ → ℕ} {low : ℕ} {xs ys : List Operation} (stands : StandsAs values calls h low xs ys) where
+module _ {values calls : ℕ → Bool} {h : ℕ → ℕ} {low : ℕ} {xs ys : List Operation}
+    (stands : StandsAs values calls h low xs ys) where
   -- the operation is one of the second list, and is selected
   abbrev pub IsSelected : Operation → Type 0
   IsSelected o = Contains ys o × (selects values calls o ≡ true)
@@ -147,11 +151,13 @@ module _ {values calls : ℕ → Bool} {h : ℕ → ℕ} {low : ℕ} {xs ys : Li
   life_there life is = life_carried carries_there life (λ o at. (life_lines xs life is o at).0) is
 
   -- a violation of the first list is one of the second
-  pub violation_there : (full : FullViolation) → IsViolationOf (on xs) full → IsViolationOf (on ys) (mapped_violation (retimed h) full)
+  pub violation_there : (full : FullViolation) → IsViolationOf (on xs) full
+      → IsViolationOf (on ys) (mapped_violation (retimed h) full)
   violation_there full is = violation_carried carries_there full (lines_are_operations xs full is) is
 
   -- a violation of the second list whose lines are selected is one of the first
-  pub violation_back : (full : FullViolation) → AreSelected (lines_of full) → IsViolationOf (on ys) full → IsViolationOf (on xs) (mapped_violation stands.back full)
+  pub violation_back : (full : FullViolation) → AreSelected (lines_of full) → IsViolationOf (on ys) full
+      → IsViolationOf (on xs) (mapped_violation stands.back full)
   violation_back = violation_carried carries_back
 
   pub no_fresh_back : NoFreshViolation (on ys) → NoFreshViolation (on xs)
@@ -171,14 +177,16 @@ module _ {values calls : ℕ → Bool} {h : ℕ → ℕ} {low : ℕ} {xs ys : Li
   calls_there (Some d) = refl
 
   calls_back : (d : Option Operation) → AreSelected (option_to_list d)
-      → (h (call_or_never (option_map stands.back d)) ≡ call_or_never d) × (low ≤ call_or_never (option_map stands.back d))
+      → (h (call_or_never (option_map stands.back d)) ≡ call_or_never d)
+      × (low ≤ call_or_never (option_map stands.back d))
   calls_back None are = stands.never
   calls_back (Some d) are = let is = are d (zero, omega arith, refl) in (called d is, (stands.late (stands.back d) (in_part d is)).0)
 
   no_later : (o x : Operation) → IsSelected o → Contains xs x → o.ret ≤ h x.ret → (stands.back o).ret ≤ x.ret
   no_later o x is among le = at_most_back stands.rises (stands.back o).ret x.ret (stands.late x among).1 (omega (arith, returned o is))
 
-  stays_back : (x y : Life) → AreSelected (operations_of_life x) → Contains xs (enqueue_of y) → StaysAtLeast x (retimed_life h y)
+  stays_back : (x y : Life) → AreSelected (operations_of_life x) → Contains xs (enqueue_of y)
+      → StaysAtLeast x (retimed_life h y)
       → StaysAtLeast (mapped_life stands.back x) y
   stays_back x y are among stays =
       let own = calls_back (dequeue_of x) (λ o at. are o (one_deeper (enqueue_of x) (option_to_list (dequeue_of x)) o at)) in
@@ -189,8 +197,10 @@ module _ {values calls : ℕ → Bool} {h : ℕ → ℕ} {low : ℕ} {xs ys : Li
       )
 
   -- a value that is dequeued no later in the second list is dequeued no later in the first
-  sooner_back : (x y : Life) → AreSelected (operations_of_life x) → dequeue_call x < NEVER → IsLife (on xs) y → dequeue_call y < NEVER
-      → dequeue_return x ≤ dequeue_return (retimed_life h y) → dequeue_return (mapped_life stands.back x) ≤ dequeue_return y
+  sooner_back : (x y : Life) → AreSelected (operations_of_life x) → dequeue_call x < NEVER → IsLife (on xs) y
+      → dequeue_call y < NEVER
+      → dequeue_return x ≤ dequeue_return (retimed_life h y)
+      → dequeue_return (mapped_life stands.back x) ≤ dequeue_return y
   sooner_back x y are called_x is_y called_y le =
       let (d, at_x) = dequeued_if_called x called_x in
       let (e, at_y) = dequeued_if_called y called_y in
@@ -203,14 +213,16 @@ module _ {values calls : ℕ → Bool} {h : ℕ → ℕ} {low : ℕ} {xs ys : Li
       omega arith
 
   -- a life whose operations are selected is the image of its own in the first list
-  brought_life : (life : Life) → AreSelected (operations_of_life life) → retimed_life h (mapped_life stands.back life) ≡ life
+  brought_life : (life : Life) → AreSelected (operations_of_life life)
+      → retimed_life h (mapped_life stands.back life) ≡ life
   brought_life life are =
       let first = are (enqueue_of life) (zero, omega arith, refl) in
       let enqueue = (stands.brings (enqueue_of life) first.0 first.1).1 in
       let dequeue = brought (dequeue_of life) (λ o at. are o (one_deeper (enqueue_of life) (option_to_list (dequeue_of life)) o at)) in
       λ i. record { enqueue = enqueue i; dequeue = dequeue i }
     where
-      brought : (d : Option Operation) → AreSelected (option_to_list d) → option_map (retimed h) (option_map stands.back d) ≡ d
+      brought : (d : Option Operation) → AreSelected (option_to_list d)
+          → option_map (retimed h) (option_map stands.back d) ≡ d
       brought None are = refl
       brought (Some d) are = let is = are d (zero, omega arith, refl) in ap (λ o. Some o) (stands.brings d is.0 is.1).1
 
@@ -226,7 +238,8 @@ module _ {values calls : ℕ → Bool} {h : ℕ → ℕ} {low : ℕ} {xs ys : Li
       let stays = at_most stands.rises (gap.0 + 1) (dequeue_call z.0) (omega (arith, gap.1)) (omega (arith, z.2.1)) in
       (z.0, z.1, (omega (arith, gap.3), omega (arith, gap.4, calls_there (dequeue_of z.0))))
 
-  chosen_cover_back : (empty : Operation) → IsSelected empty → (cover : List Life) (frontier time : ℕ) → h time ≡ frontier → low ≤ time
+  chosen_cover_back : (empty : Operation) → IsSelected empty → (cover : List Life) (frontier time : ℕ)
+      → h time ≡ frontier → low ≤ time
       → AreSelected (flat_map operations_of_life cover) → IsChosenCoverFrom (on ys) empty frontier cover
       → IsChosenCoverFrom (on xs) (stands.back empty) time (map (mapped_life stands.back) cover)
   chosen_cover_back empty is [] frontier time same from are chosen = chosen
@@ -250,7 +263,8 @@ module _ {values calls : ℕ → Bool} {h : ℕ → ℕ} {low : ℕ} {xs ys : Li
       own : AreSelected (operations_of_life life)
       own o at = are o (Contains-append_left (operations_of_life life) (flat_map operations_of_life rest) o at)
 
-      dequeue : (h (dequeue_call (mapped_life stands.back life)) ≡ dequeue_call life) × (low ≤ dequeue_call (mapped_life stands.back life))
+      dequeue : (h (dequeue_call (mapped_life stands.back life)) ≡ dequeue_call life)
+          × (low ≤ dequeue_call (mapped_life stands.back life))
       dequeue = calls_back (dequeue_of life) (λ o at. own o (one_deeper (enqueue_of life) (option_to_list (dequeue_of life)) o at))
 
   -- the chosen violation of the second list is chosen in the first, if its lines are selected
@@ -314,7 +328,8 @@ brought_back : (f : Operation → Operation) (xs : List Operation) (o : Operatio
 brought_back f [] o among = absurd (not_in_none o among)
 brought_back f (x ∷ xs) o among = pick (nat_eq (f x).call o.call) refl (brought_back f xs o)
   where
-    pick : (b : Bool) → nat_eq (f x).call o.call ≡ b → (Contains (map f xs) o → Contains xs (brought f xs o) × ((f (brought f xs o)).call ≡ o.call))
+    pick : (b : Bool) → nat_eq (f x).call o.call ≡ b
+        → (Contains (map f xs) o → Contains xs (brought f xs o) × ((f (brought f xs o)).call ≡ o.call))
         → Contains (x ∷ xs) (cond b x (brought f xs o)) × ((f (cond b x (brought f xs o))).call ≡ o.call)
     pick true test more = ((zero, omega arith, refl), eqb-true (f x).call o.call test)
     pick false test more = elim (contains_cons (f x) (map f xs) o among) [
@@ -323,8 +338,10 @@ brought_back f (x ∷ xs) o among = pick (nat_eq (f x).call o.call) refl (brough
     ]
 
 -- a selection that is another list at later times
-pub selected_stands : (values calls : ℕ → Bool) (h : ℕ → ℕ) (low : ℕ) (xs ys : List Operation) → Rises low h → (h NEVER ≡ NEVER) × (low ≤ NEVER)
-    → AreLate low xs → AreComplete xs → AreComplete ys → filter (selects values calls) ys ≡ map (retimed h) xs → StandsAs values calls h low xs ys
+pub selected_stands : (values calls : ℕ → Bool) (h : ℕ → ℕ) (low : ℕ) (xs ys : List Operation) → Rises low h
+    → (h NEVER ≡ NEVER) × (low ≤ NEVER)
+    → AreLate low xs → AreComplete xs → AreComplete ys → filter (selects values calls) ys ≡ map (retimed h) xs
+    → StandsAs values calls h low xs ys
 selected_stands values calls h low xs ys rises never late part_complete complete same = record {
   rises = rises;
   never = never;
@@ -358,17 +375,20 @@ abbrev AreFew : List ℕ → Type 0
 AreFew initial = length initial ≤ MAX_INITIAL
 
 -- no time from the first kept value on is before the first value
-lifted_from : (keeps : ℕ → Bool) (initial : List ℕ) (t : ℕ) → start (filter keeps initial) ≤ t → start initial ≤ lifted keeps initial t
+lifted_from : (keeps : ℕ → Bool) (initial : List ℕ) (t : ℕ) → start (filter keeps initial) ≤ t
+    → start initial ≤ lifted keeps initial t
 lifted_from keeps [] t from = from
 lifted_from keeps (v ∷ rest) t from = grind (arith, nat_tests, lifted_from keeps rest t)
 
 -- a kept value comes just before the others
-first_kept : (kept : Bool) (v : ℕ) (others : List ℕ) (t : ℕ) → start (cond kept (v ∷ others) others) ≤ t → start others ≤ t + 1
+first_kept : (kept : Bool) (v : ℕ) (others : List ℕ) (t : ℕ) → start (cond kept (v ∷ others) others) ≤ t
+    → start others ≤ t + 1
 first_kept true v others t from = omega arith
 first_kept false v others t from = omega arith
 
 -- times stay in their order
-pub lifted_rises : (keeps : ℕ → Bool) (initial : List ℕ) → AreFew initial → Rises (start (filter keeps initial)) (lifted keeps initial)
+pub lifted_rises : (keeps : ℕ → Bool) (initial : List ℕ) → AreFew initial
+    → Rises (start (filter keeps initial)) (lifted keeps initial)
 lifted_rises keeps [] few a b from less = less
 lifted_rises keeps (v ∷ rest) few a b from less =
     grind (arith, nat_tests, lifted_from keeps rest b, first_kept (keeps v) v (filter keeps rest) a from, lifted_rises keeps rest (omega arith) a b)
@@ -379,7 +399,8 @@ lifted_late keeps [] t late = refl
 lifted_late keeps (v ∷ rest) t late = grind (arith, nat_tests, lifted_late keeps rest t late)
 
 -- no operation of a timeline is before the first initial value
-pub timeline_late : (initial : List ℕ) (operations : List Operation) → AreLate (start initial) (timeline initial operations)
+pub timeline_late : (initial : List ℕ) (operations : List Operation)
+    → AreLate (start initial) (timeline initial operations)
 timeline_late initial operations o among =
     elim (Contains-append_cases (initial_enqueues initial) (map (later_by ORIGIN) operations) o among) [
       | inl here ↦
@@ -397,14 +418,16 @@ timeline_late initial operations o among =
 -- ---- one more value
 
 -- functions that agree on each element map a list to the same list
-pub map_agree : {X Y : Type 0} (f g : X → Y) (xs : List X) → ((x : X) → Contains xs x → f x ≡ g x) → map f xs ≡ map g xs
+pub map_agree : {X Y : Type 0} (f g : X → Y) (xs : List X) → ((x : X) → Contains xs x → f x ≡ g x)
+    → map f xs ≡ map g xs
 map_agree f g [] same = refl
 map_agree f g (x ∷ xs) same =
     let here = same x (0, omega arith, refl) in
     let more = map_agree f g xs (λ y among. same y (one_deeper x xs y among)) in
     cc
 
-filter_mapped : {X Y : Type 0} (p : Y → Bool) (f : X → Y) (xs : List X) → filter p (map f xs) ≡ map f (filter (λ x. p (f x)) xs)
+filter_mapped : {X Y : Type 0} (p : Y → Bool) (f : X → Y) (xs : List X)
+    → filter p (map f xs) ≡ map f (filter (λ x. p (f x)) xs)
 filter_mapped p f [] = refl
 filter_mapped p f (x ∷ xs) = grind (arith, filter_mapped p f xs)
 
@@ -450,7 +473,8 @@ selected_of_timeline values calls (v ∷ rest) operations few =
         (λ o among. let late = timeline_late others (selected_behind values calls operations) o among in
         same_operation _ _ (same o.call late.0) (same o.ret late.1) refl refl)
 
-    join : (b : Bool) → cond b (enqueue_at (start (v ∷ rest)) v ∷ map (retimed (lifted values rest)) selected) (map (retimed (lifted values rest)) selected)
+    join : (b : Bool) → cond b (enqueue_at (start (v ∷ rest)) v ∷ map (retimed (lifted values rest)) selected)
+        (map (retimed (lifted values rest)) selected)
         ≡ map (retimed (lifted values (v ∷ rest))) (timeline (cond b (v ∷ others) others) (selected_behind values calls operations))
     join false = all_same
     join true =
@@ -461,7 +485,8 @@ selected_of_timeline values calls (v ∷ rest) operations few =
         here = rw (lt-ltb (start (v ∷ others)) (start others) (omega (arith, fewer))) refl
 
 -- a filter keeps all, or some element fails its test
-pub all_or_one : {X : Type 0} (p : X → Bool) (xs : List X) → (filter p xs ≡ xs) ⊎ ((x : X) × Contains xs x × (p x ≡ false))
+pub all_or_one : {X : Type 0} (p : X → Bool) (xs : List X)
+    → (filter p xs ≡ xs) ⊎ ((x : X) × Contains xs x × (p x ≡ false))
 all_or_one p [] = inl refl
 all_or_one {X} p (x ∷ xs) = pick (p x) refl (all_or_one p xs)
   where
@@ -479,7 +504,8 @@ first_line (order a b) = (enqueue_of a, (zero, omega arith, refl))
 first_line (witness empty cover) = (empty, (zero, omega arith, refl))
 
 -- the two values of an order violation are different
-not_itself : (operations : List Operation) (a b : Life) (is : IsOrderViolation (on operations) a b) → AreComplete operations → is.is_a.0 ≡ is.is_b.0 → ⊥
+not_itself : (operations : List Operation) (a b : Life) (is : IsOrderViolation (on operations) a b)
+    → AreComplete operations → is.is_a.0 ≡ is.is_b.0 → ⊥
 not_itself operations a b is complete same =
     let one = same_enqueue operations (enqueue_of a) (enqueue_of b) is.is_b.0 complete (subst (λ v. Did operations (enqueue_of a) (Enqueue v)) same is.is_a.1)
     is.is_b.1 in
@@ -497,7 +523,8 @@ module _ {values calls : ℕ → Bool} {h : ℕ → ℕ} {low : ℕ} {xs ys : Li
       cc
 
   -- if all operations have one value, none is left
-  nothing_left : (v : ℕ) → ((o : Operation) → Contains ys o → HasValue o v) → (full : FullViolation) → IsViolationOf (on xs) full → ⊥
+  nothing_left : (v : ℕ) → ((o : Operation) → Contains ys o → HasValue o v) → (full : FullViolation)
+      → IsViolationOf (on xs) full → ⊥
   nothing_left v all full is =
       let first = first_line full in
       let among = lines_are_operations xs full is first.0 first.1 in
@@ -548,7 +575,8 @@ module _ {values calls : ℕ → Bool} {h : ℕ → ℕ} {low : ℕ} {xs ys : Li
         ]
 
     -- the value that is left out was the only one in the queue at some gap
-    not_covered_without : (v : ℕ) → HasValue missing v → (o : Operation) → Contains xs o → retimed h o ≡ empty → IsCovered (on xs) o → ⊥
+    not_covered_without : (v : ℕ) → HasValue missing v → (o : Operation) → Contains xs o → retimed h o ≡ empty
+        → IsCovered (on xs) o → ⊥
     not_covered_without v is_missing o among same covered =
         let x = has_value_of_cover missing v was is_missing in
         let other = no_enqueue empty DequeueEmpty chosen.answers_empty.1 refl in
@@ -582,7 +610,8 @@ module _ {values calls : ℕ → Bool} {h : ℕ → ℕ} {low : ℕ} {xs ys : Li
             cc
 
   -- so the operations that are left have no violation
-  pub none_is_left : (full : FullViolation) → IsChosenFullViolation (on ys) full → AreFor (lines_of full) ys → (other : FullViolation)
+  pub none_is_left : (full : FullViolation) → IsChosenFullViolation (on ys) full → AreFor (lines_of full) ys
+      → (other : FullViolation)
       → IsViolationOf (on xs) other → ⊥
   none_is_left (fresh deq enq) chosen are other is = let lines = fresh_lines ys deq enq chosen.violates in
       nothing_left lines.0 (λ o among. let line = are o among in sym line.1.same_value ∙ (lines.1 line.0 line.1.among).1) other is

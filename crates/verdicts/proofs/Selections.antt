@@ -5,13 +5,15 @@ use Rattle.verdicts.proofs.Common.{AllPairs-filter, AllPairs-tail, AllZip-long, 
 use Rattle.verdicts.proofs.Common.{AreComplete, AreDistinct, arith, Bool, call_or_never, called_value}
 use Rattle.verdicts.proofs.Common.{called_values, chosen_cover_is_shortest, cond, cons_option, Contains}
 use Rattle.verdicts.proofs.Common.{Contains-append_cases, Contains-append_left, Contains-append_right, Contains-get_or}
-use Rattle.verdicts.proofs.Common.{contains_cons, course, CoversFrom, CoverStep, Dequeue, dequeue_of, Did, DequeueEmpty, Enqueue}
+use Rattle.verdicts.proofs.Common.{contains_cons, course, CoversFrom, CoverStep, Dequeue, dequeue_of, Did}
+use Rattle.verdicts.proofs.Common.{DequeueEmpty, Enqueue}
 use Rattle.verdicts.proofs.Common.{enqueue_of, eqb-true, Event, false, filter, filter_map, find, flat_map, fresh}
 use Rattle.verdicts.proofs.Common.{FullViolation, get_or, holds_ticket, inl, inr, is_call, IsChosenViolation}
 use Rattle.verdicts.proofs.Common.{IsCompleteFrom, IsCompleteHistory, IsLife, IsNamed, IsShortestCover, IsTrue}
 use Rattle.verdicts.proofs.Common.{IsViolationOf, IsWitnessViolation, keeps, kept, kind_of, length, Life, lines_of}
 use Rattle.verdicts.proofs.Common.{List, list_any-from_Any, map, map-append, MatchOption, MAX_INITIAL, MAX_THREAD}
-use Rattle.verdicts.proofs.Common.{MAX_TICKET, Names, nat_eq, nat_tests, NEVER, None, NoneDid, EnqueueFailed, not_in_none}
+use Rattle.verdicts.proofs.Common.{MAX_TICKET, Names, nat_eq, nat_tests, NEVER, None, NoneDid, EnqueueFailed}
+use Rattle.verdicts.proofs.Common.{not_in_none}
 use Rattle.verdicts.proofs.Common.{on, one_at, one_deeper, Operation, operations_are_complete, operations_of}
 use Rattle.verdicts.proofs.Common.{operations_of_life, OpKind, Option, option_map, option_to_list, order}
 use Rattle.verdicts.proofs.Common.{passed_filter, passes_filter, Precedes, projection, refl, repeat, return_or_never}
@@ -43,7 +45,8 @@ module _ (g : Operation → Operation) where
   maybe_line None = refl
   maybe_line (Some d) = refl
 
-  cover_lines : (cover : List Life) → flat_map operations_of_life (map (mapped_life g) cover) ≡ map g (flat_map operations_of_life cover)
+  cover_lines : (cover : List Life)
+      → flat_map operations_of_life (map (mapped_life g) cover) ≡ map g (flat_map operations_of_life cover)
   cover_lines [] = refl
   cover_lines (life ∷ cover) =
       ap (λ os. g (enqueue_of life) ∷ (os ++ flat_map operations_of_life (map (mapped_life g) cover))) (maybe_line (dequeue_of life))
@@ -68,7 +71,8 @@ module _ (g : Operation → Operation) where
   mapped_kind (witness empty cover) = refl
 
 -- the consequences for an optional operation and its image
-mapped_then : {P Q : Type 0} (R S : Operation → Type 0) (g : Operation → Operation) (d : Option Operation) → MatchOption d P R → (P → Q)
+mapped_then : {P Q : Type 0} (R S : Operation → Type 0) (g : Operation → Operation) (d : Option Operation)
+    → MatchOption d P R → (P → Q)
     → ((x : Operation) → Contains (option_to_list d) x → R x → S (g x)) → MatchOption (option_map g d) Q S
 mapped_then R S g None is none some = none is
 mapped_then R S g (Some x) is none some = some x (zero, omega arith, refl) is
@@ -77,19 +81,22 @@ mapped_then R S g (Some x) is none some = some x (zero, omega arith, refl) is
 -- that one has, has none among the images
 pub record Carries (from to : List Operation) (g : Operation → Operation) (IsTaken : Operation → Type 0) : Type 0 where
   pub did : (o : Operation) (kind : OpKind) → IsTaken o → Did from o kind → Did to (g o) kind
-  pub none_did : (o : Operation) (v : ℕ) (own kind : OpKind) → Did from o own → value_of own ≡ Some v → value_of kind ≡ Some v
+  pub none_did : (o : Operation) (v : ℕ) (own kind : OpKind) → Did from o own → value_of own ≡ Some v
+      → value_of kind ≡ Some v
       → NoneDid from kind → NoneDid to kind
   pub precedes : (x y : Operation) → IsTaken x → IsTaken y → Precedes x y → Precedes (g x) (g y)
   pub in_turn : (x y : Operation) → IsTaken x → IsTaken y → x.ret < y.ret → (g x).ret < (g y).ret
   pub in_range : (x : Operation) → IsTaken x → ((g x).call < NEVER) × ((g x).ret < NEVER)
 
-module _ {from to : List Operation} {g : Operation → Operation} {IsTaken : Operation → Type 0} (c : Carries from to g IsTaken) where
+module _ {from to : List Operation} {g : Operation → Operation} {IsTaken : Operation → Type 0}
+    (c : Carries from to g IsTaken) where
   -- all listed operations are taken
   abbrev AreTaken : List Operation → Type 0
   AreTaken listed = (o : Operation) → Contains listed o → IsTaken o
 
   -- a life is carried over
-  pub life_carried : (life : Life) → AreTaken (operations_of_life life) → IsLife (on from) life → IsLife (on to) (mapped_life g life)
+  pub life_carried : (life : Life) → AreTaken (operations_of_life life) → IsLife (on from) life
+      → IsLife (on to) (mapped_life g life)
   life_carried life taken is = (
     is.0,
     c.did (enqueue_of life) (Enqueue is.0) (taken (enqueue_of life) (zero, omega arith, refl)) is.1,
@@ -98,22 +105,26 @@ module _ {from to : List Operation} {g : Operation → Operation} {IsTaken : Ope
   )
 
   -- an operation that returns before an optional call does so after mapping
-  before_call : (x : Operation) (d : Option Operation) → IsTaken x → AreTaken (option_to_list d) → x.ret < call_or_never d
+  before_call : (x : Operation) (d : Option Operation) → IsTaken x → AreTaken (option_to_list d)
+      → x.ret < call_or_never d
       → (g x).ret < call_or_never (option_map g d)
   before_call x None is_x are less = (c.in_range x is_x).1
   before_call x (Some d) is_x are less = c.precedes x d is_x (are d (zero, omega arith, refl)) less
 
   -- a value dequeued before another is, or never, is so after mapping
-  left_before : (x d : Option Operation) → AreTaken (option_to_list x) → AreTaken (option_to_list d) → call_or_never x < NEVER
+  left_before : (x d : Option Operation) → AreTaken (option_to_list x) → AreTaken (option_to_list d)
+      → call_or_never x < NEVER
       → return_or_never x < call_or_never d → return_or_never (option_map g x) < call_or_never (option_map g d)
   left_before None d are_x are called less = absurd (omega arith)
   left_before (Some x) d are_x are called less = before_call x d (are_x x (zero, omega arith, refl)) are less
 
-  called_there : (x : Option Operation) → AreTaken (option_to_list x) → call_or_never x < NEVER → call_or_never (option_map g x) < NEVER
+  called_there : (x : Option Operation) → AreTaken (option_to_list x) → call_or_never x < NEVER
+      → call_or_never (option_map g x) < NEVER
   called_there None are called = called
   called_there (Some x) are called = (c.in_range x (are x (zero, omega arith, refl))).0
 
-  cover_carried : (empty : Operation) (before : Option Operation) (cover : List Life) → IsTaken empty → AreTaken (option_to_list before)
+  cover_carried : (empty : Operation) (before : Option Operation) (cover : List Life) → IsTaken empty
+      → AreTaken (option_to_list before)
       → AreTaken (flat_map operations_of_life cover) → CoversFrom (on from) empty (call_or_never before) cover
       → CoversFrom (on to) (g empty) (call_or_never (option_map g before)) (map (mapped_life g) cover)
   cover_carried empty before [] is_empty are_before taken covers = covers
@@ -135,7 +146,8 @@ module _ {from to : List Operation} {g : Operation → Operation} {IsTaken : Ope
       )
 
   -- a violation is carried over
-  pub violation_carried : (full : FullViolation) → AreTaken (lines_of full) → IsViolationOf (on from) full → IsViolationOf (on to) (mapped_violation g full)
+  pub violation_carried : (full : FullViolation) → AreTaken (lines_of full) → IsViolationOf (on from) full
+      → IsViolationOf (on to) (mapped_violation g full)
   violation_carried (fresh deq enq) taken is =
       let first = taken deq (zero, omega arith, refl) in
       mapped_then _ _ g enq is
@@ -210,7 +222,8 @@ filters_swap p q [] = refl
 filters_swap p q (x ∷ xs) = grind (arith, filters_swap p q xs)
 
 -- an element found in the whole list is found in the kept part, if it is kept
-find_kept : {X : Type 0} (p keeps : X → Bool) (xs : List X) (r : X) → find p xs ≡ Some r → keeps r ≡ true → find p (filter keeps xs) ≡ Some r
+find_kept : {X : Type 0} (p keeps : X → Bool) (xs : List X) (r : X) → find p xs ≡ Some r → keeps r ≡ true
+    → find p (filter keeps xs) ≡ Some r
 find_kept p keeps [] r found is = cc
 find_kept p keeps (x ∷ xs) r found is = grind (arith, find_kept p keeps xs r)
 
@@ -235,7 +248,8 @@ module _ (keeps : ℕ → Bool) (test : Operation → Bool) where
     where
       join : (b : Bool) → is_call e.what ≡ b → (next : Option Event) → next_of e.thread later ≡ next
           → KeepsBoth keeps test (cond b (operation_so_far e next ∷ operations_so_far later) (operations_so_far later))
-          → (KeepsBoth keeps test (operations_so_far later) → operations_so_far (kept_events later) ≡ filter test (operations_so_far later))
+          → (KeepsBoth keeps test (operations_so_far later)
+          → operations_so_far (kept_events later) ≡ filter test (operations_so_far later))
           → operations_so_far (cond (keeps e.ticket) (e ∷ kept_events later) (kept_events later))
           ≡ filter test (cond b (operation_so_far e next ∷ operations_so_far later) (operations_so_far later))
       join false is next found both' rest = let more = rest both' in grind arith
@@ -250,7 +264,8 @@ module _ (keeps : ℕ → Bool) (test : Operation → Bool) where
 
   -- kept events take turns if each call is kept together with its return
   kept_turns : (events : List Event) → TakesTurns events
-      → ((before : List Event) (c a : Event) (rest : List Event) → events ≡ before ++ c ∷ a ∷ rest → IsTrue (answers c.what a.what)
+      → ((before : List Event) (c a : Event) (rest : List Event) → events ≡ before ++ c ∷ a ∷ rest
+      → IsTrue (answers c.what a.what)
       → keeps c.ticket ≡ keeps a.ticket) → TakesTurns (kept_events events)
   kept_turns [] turns alike = tt
   kept_turns (c ∷ []) turns alike = elim turns [ ]
@@ -258,13 +273,15 @@ module _ (keeps : ℕ → Bool) (test : Operation → Bool) where
       (λ before c' a' rest' same. alike (c ∷ a ∷ before) c' a' rest' (ap (λ xs. c ∷ a ∷ xs) same)))
     where
       pick : (k l : Bool) → k ≡ l → TakesTurns (kept_events rest)
-          → TakesTurns (cond k (c ∷ cond l (a ∷ kept_events rest) (kept_events rest)) (cond l (a ∷ kept_events rest) (kept_events rest)))
+          → TakesTurns (cond k (c ∷ cond l (a ∷ kept_events rest) (kept_events rest))
+          (cond l (a ∷ kept_events rest) (kept_events rest)))
       pick true true same more = (turns.0, more)
       pick false false same more = more
       pick _ _ same more = cc
 
 -- a call and the return that follows it in its thread make an operation
-made_in : (thread : ℕ) (events before : List Event) (c a : Event) (rest : List Event) → projection thread events ≡ before ++ c ∷ a ∷ rest
+made_in : (thread : ℕ) (events before : List Event) (c a : Event) (rest : List Event)
+    → projection thread events ≡ before ++ c ∷ a ∷ rest
     → IsTrue (answers c.what a.what) → Contains (operations_so_far events) (operation_so_far c (Some a))
 made_in thread [] [] c a rest same is = cc
 made_in thread [] (b ∷ before) c a rest same is = cc
@@ -275,13 +292,15 @@ made_in thread (e ∷ later) before c a rest same is =
     o = operation_so_far c (Some a)
 
     deeper : (b : Bool) → Contains (operations_so_far later) o
-        → Contains (cond b (operation_so_far e (next_of e.thread later) ∷ operations_so_far later) (operations_so_far later)) o
+        → Contains (cond b (operation_so_far e (next_of e.thread later) ∷ operations_so_far later)
+        (operations_so_far later)) o
     deeper true among = one_deeper (operation_so_far e (next_of e.thread later)) (operations_so_far later) o among
     deeper false among = among
 
     pick : (b : Bool) → nat_eq e.thread thread ≡ b → (before : List Event)
         → cond b (e ∷ projection thread later) (projection thread later) ≡ before ++ c ∷ a ∷ rest
-        → ((before : List Event) → projection thread later ≡ before ++ c ∷ a ∷ rest → Contains (operations_so_far later) o)
+        → ((before : List Event) → projection thread later ≡ before ++ c ∷ a ∷ rest
+        → Contains (operations_so_far later) o)
         → Contains (operations_so_far (e ∷ later)) o
     pick false test before same more = deeper (is_call e.what) (more before same)
     pick true test (x ∷ before) same more =
@@ -295,7 +314,8 @@ made_in thread (e ∷ later) before c a rest same is =
         rw calls (zero, omega arith, ap (operation_so_far e) found ∙ ap (λ (x : Event). operation_so_far x (Some a)) here)
 
 -- a fact about all values of a list holds of those of its kept elements
-All-kept : {X Y : Type 0} (P : Y → Type 0) (f : X → Option Y) (keeps : X → Bool) (xs : List X) → All P (filter_map f xs)
+All-kept : {X Y : Type 0} (P : Y → Type 0) (f : X → Option Y) (keeps : X → Bool) (xs : List X)
+    → All P (filter_map f xs)
     → All P (filter_map f (filter keeps xs))
 All-kept P f passes xs all k d below =
     let y = get_or (filter_map f (filter passes xs)) k d in
@@ -305,7 +325,8 @@ All-kept P f passes xs all k d below =
 pairs_after_first : {Y : Type 0} (R : Y → Y → Type 0) (y : Y) (ys : List Y) → AllPairs R (y ∷ ys) → All (R y) ys
 pairs_after_first R y ys pairs k d below = pairs zero (suc k) d (omega arith) (omega arith)
 
-AllPairs-kept : {X Y : Type 0} (R : Y → Y → Type 0) (f : X → Option Y) (keeps : X → Bool) (xs : List X) → AllPairs R (filter_map f xs)
+AllPairs-kept : {X Y : Type 0} (R : Y → Y → Type 0) (f : X → Option Y) (keeps : X → Bool) (xs : List X)
+    → AllPairs R (filter_map f xs)
     → AllPairs R (filter_map f (filter keeps xs))
 AllPairs-kept R f keeps [] pairs = pairs
 AllPairs-kept {X} {Y} R f keeps (x ∷ xs) pairs = pick (f x) refl (keeps x) pairs (AllPairs-kept R f keeps xs)
@@ -334,7 +355,8 @@ kept_is_complete keeps test events complete both = record {
 }
 
 -- the ticket of a call or a return is held
-held : (operations : List Operation) (o : Operation) (ticket : ℕ) → Contains operations o → (o.call ≡ ticket) ⊎ (o.ret ≡ ticket)
+held : (operations : List Operation) (o : Operation) (ticket : ℕ) → Contains operations o
+    → (o.call ≡ ticket) ⊎ (o.ret ≡ ticket)
     → holds_ticket operations ticket ≡ true
 held operations o ticket among is =
     list_any-from_Any (λ o. nat_eq o.call ticket || nat_eq o.ret ticket) operations (among.0, o, among.1, among.2, grind (arith, nat_tests))
@@ -348,7 +370,8 @@ holder operations ticket holds =
 
 module _ (operations : List Operation) (complete : AreComplete operations) (test : Operation → Bool) where
   -- each ticket belongs to one operation
-  one_holder : (x o : Operation) (ticket : ℕ) → Contains operations x → Contains operations o → (x.call ≡ ticket) ⊎ (x.ret ≡ ticket)
+  one_holder : (x o : Operation) (ticket : ℕ) → Contains operations x → Contains operations o
+      → (x.call ≡ ticket) ⊎ (x.ret ≡ ticket)
       → (o.call ≡ ticket) ⊎ (o.ret ≡ ticket) → x ≡ o
   one_holder x o ticket in_x in_o (inl is_x) (inl is_o) = same_call operations x o complete in_x in_o (is_x ∙ sym is_o)
   one_holder x o ticket in_x in_o (inl is_x) (inr is_o) = sym (returns_at_call operations o x complete in_o in_x (is_o ∙ sym is_x))
@@ -379,11 +402,13 @@ module _ (test : Operation → Bool) (events : List Event) (complete : IsComplet
       (tickets_keep_both (operations_of events) (operations_are_complete events complete) test)
 
   -- the events of selected operations are a complete history
-  pub selected_events_are_complete : IsCompleteHistory (events_at_tickets_of (filter test (operations_of events)) events)
+  pub selected_events_are_complete : IsCompleteHistory
+      (events_at_tickets_of (filter test (operations_of events)) events)
   selected_events_are_complete = kept_is_complete (holds_ticket (filter test (operations_of events))) test events complete keep_both
 
   -- the operations of these events are the selected ones
-  pub operations_of_selected : operations_of (events_at_tickets_of (filter test (operations_of events)) events) ≡ filter test (operations_of events)
+  pub operations_of_selected : operations_of (events_at_tickets_of (filter test (operations_of events)) events)
+      ≡ filter test (operations_of events)
   operations_of_selected =
       sym (all_formed (events_at_tickets_of (filter test (operations_of events)) events) selected_events_are_complete)
       ∙ kept_operations (holds_ticket (filter test (operations_of events))) test events keep_both ∙ ap (filter test) (all_formed events complete)
@@ -404,13 +429,15 @@ distinct_kept p (v ∷ rest) calls fewer distinct others among =
     differs : (w : ℕ) → Contains (rest ++ calls) w → v ≢ w
     differs w at same = distinct zero (suc at.0) w (omega arith) (omega (arith, at.1)) (same ∙ sym at.2)
 
-    pick : (b : Bool) → AreDistinct (filter p rest ++ fewer) → AreDistinct (cond b (v ∷ filter p rest) (filter p rest) ++ fewer)
+    pick : (b : Bool) → AreDistinct (filter p rest ++ fewer)
+        → AreDistinct (cond b (v ∷ filter p rest) (filter p rest) ++ fewer)
     pick false later = later
     pick true later = AllPairs-cons (λ x y. x ≢ y) v (filter p rest ++ fewer)
         (λ k d below. differs (get_or (filter p rest ++ fewer) k d)
         (in_whole (get_or (filter p rest ++ fewer) k d) (Contains-get_or (filter p rest ++ fewer) k d below))) later
 
-module _ (initial : List ℕ) (events : List Event) (whole : IsCompleteFrom initial events) (values : ℕ → Bool) (test : Operation → Bool) where
+module _ (initial : List ℕ) (events : List Event) (whole : IsCompleteFrom initial events)
+    (values : ℕ → Bool) (test : Operation → Bool) where
   -- the events of the operations that pass a test
   abbrev pub events_kept : List Event
   events_kept = events_at_tickets_of (filter test (operations_of events)) events
@@ -436,7 +463,8 @@ module _ (initial : List ℕ) (events : List Event) (whole : IsCompleteFrom init
           keeps (λ (e : Event). called_value e.what) events found.0 v passed.0 found.2
 
   -- the timeline of the selected values and operations is complete
-  pub kept_timeline_are_complete : length initial ≤ MAX_INITIAL → AreComplete (timeline (filter values initial) (filter test (operations_of events)))
+  pub kept_timeline_are_complete : length initial ≤ MAX_INITIAL
+      → AreComplete (timeline (filter values initial) (filter test (operations_of events)))
   kept_timeline_are_complete few =
       let shorter = no_longer values initial in
       subst (λ os. AreComplete (timeline (filter values initial) os)) operations_kept

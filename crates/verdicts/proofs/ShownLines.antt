@@ -7,7 +7,8 @@ use Rattle.verdicts.proofs.Common.{enqueue_return, enqueue_stands, flat_map, fre
 use Rattle.verdicts.proofs.Common.{initial_enqueues, initial_time, inl, inr, IsLife, IsOrderViolation, IsViolationOf}
 use Rattle.verdicts.proofs.Common.{kind_of, later_by, LeavesAfter, length, Life, LineDid, LinePrecedes, lines_of}
 use Rattle.verdicts.proofs.Common.{LinesCover, List, map, mapped_to, MatchOption, MAX_INITIAL, NEVER}
-use Rattle.verdicts.proofs.Common.{NoLineDid, None, NoneDid, EnqueueFailed, on, Operation, operations_of_life, OpKind, Option}
+use Rattle.verdicts.proofs.Common.{NoLineDid, None, NoneDid, EnqueueFailed, on, Operation, operations_of_life, OpKind}
+use Rattle.verdicts.proofs.Common.{Option}
 use Rattle.verdicts.proofs.Common.{option_to_list, order, ORIGIN, place_of, refl, repeat, return_or_never}
 use Rattle.verdicts.proofs.Common.{ReturnsFirst, same_enqueue, Shows, slice_get, slice_get_within, Some, subst, sym}
 use Rattle.verdicts.proofs.Common.{timeline, timeline_at, VFresh, ViolationKind, VOrd, VRepeat, VWit, witness, ℕ, ◌++◌}
@@ -83,7 +84,8 @@ module _ (initial : List ℕ) (operations : List Operation) (few : length initia
       )
 
   -- a line is of the kind of the operation that it stands for
-  line_did : (l : ClaimLine) (o : Operation) (kind : OpKind) → StandsFor initial operations l o → o.kind ≡ kind → LineDid initial operations l kind
+  line_did : (l : ClaimLine) (o : Operation) (kind : OpKind) → StandsFor initial operations l o → o.kind ≡ kind
+      → LineDid initial operations l kind
   line_did l o kind (among, same) is = elim (line_told o among) [
     | inl early ↦ subst (λ m. LineDid initial operations m kind) (sym early.line ∙ same)
         (contains_at initial early.place early.value early.stands, sym is ∙ sym (ap (λ (x : Operation). x.kind) early.is))
@@ -98,14 +100,16 @@ module _ (initial : List ℕ) (operations : List Operation) (few : length initia
   )
 
   -- dequeues return in the order of their lines
-  returns_exactly : (l m : ClaimLine) (o p : Operation) (v w : ℕ) → StandsFor initial operations l o → StandsFor initial operations m p
+  returns_exactly : (l m : ClaimLine) (o p : Operation) (v w : ℕ) → StandsFor initial operations l o
+      → StandsFor initial operations m p
       → o.kind ≡ Dequeue v → p.kind ≡ Dequeue w → (o.ret < p.ret) ↔ ReturnsFirst l m
   returns_exactly l m o p v w (in_o, is_l) (in_p, is_m) dequeues dequeues' = both (line_told o in_o) (line_told p in_p)
     where
       no_dequeue : (x : Operation) (u : ℕ) → IsInitialLine x → x.kind ≡ Dequeue u → ⊥
       no_dequeue x u early is = let clash : Enqueue early.value ≡ Dequeue u = ap (λ (y : Operation). y.kind) early.is ∙ is in cc
 
-      both : IsInitialLine o ⊎ IsOperationLine o → IsInitialLine p ⊎ IsOperationLine p → (o.ret < p.ret) ↔ ReturnsFirst l m
+      both : IsInitialLine o ⊎ IsOperationLine o → IsInitialLine p ⊎ IsOperationLine p
+          → (o.ret < p.ret) ↔ ReturnsFirst l m
       both (inl early) _ = absurd (no_dequeue o v early dequeues)
       both _ (inl early) = absurd (no_dequeue p w early dequeues')
       both (inr x) (inr y) =
@@ -115,7 +119,8 @@ module _ (initial : List ℕ) (operations : List Operation) (few : length initia
           (subst (λ n. (o.ret < p.ret) ↔ ReturnsFirst (Op x.operation) n) (sym y.line ∙ is_m) (λ less. omega arith, λ less. omega arith))
 
   -- lines precede each other as their operations do
-  line_precedes : (l m : ClaimLine) (o p : Operation) → StandsFor initial operations l o → StandsFor initial operations m p → o.ret < p.call
+  line_precedes : (l m : ClaimLine) (o p : Operation) → StandsFor initial operations l o
+      → StandsFor initial operations m p → o.ret < p.call
       → LinePrecedes initial l m
   line_precedes l m o p (in_o, is_l) (in_p, is_m) less = by_told (line_told o in_o) (line_told p in_p)
     where
@@ -143,8 +148,10 @@ module _ (initial : List ℕ) (operations : List Operation) (few : length initia
   abbrev AreFor : List ClaimLine → List Operation → Type 0
   AreFor lines listed = AllZip (StandsFor initial operations) lines listed
 
-  leaves_after : (line : ClaimLine) (o : Operation) (v : ℕ) (d : Option Operation) (lines : List ClaimLine) → StandsFor initial operations line o
-      → MatchOption d (NoneDid all (Dequeue v)) (λ x. Did all x (Dequeue v)) → o.ret < call_or_never d → AreFor lines (option_to_list d)
+  leaves_after : (line : ClaimLine) (o : Operation) (v : ℕ) (d : Option Operation) (lines : List ClaimLine)
+      → StandsFor initial operations line o
+      → MatchOption d (NoneDid all (Dequeue v)) (λ x. Did all x (Dequeue v)) → o.ret < call_or_never d
+      → AreFor lines (option_to_list d)
       → LeavesAfter initial operations line v lines
   leaves_after line o v None [] at none later each = (none_exactly (Dequeue v)).0 none
   leaves_after line o v (Some d) (l ∷ []) at did later each = (line_did l d (Dequeue v) each.0 did.1, line_precedes line l o d at each.0 later)
@@ -152,7 +159,8 @@ module _ (initial : List ℕ) (operations : List Operation) (few : length initia
   leaves_after line o v (Some d) [] at did later each = absurd each
   leaves_after line o v (Some d) (l ∷ m ∷ lines) at did later each = absurd each.1
 
-  order_shows : (a b : Life) (lines : List ClaimLine) → AreFor lines (lines_of (order a b)) → IsOrderViolation (on all) a b
+  order_shows : (a b : Life) (lines : List ClaimLine) → AreFor lines (lines_of (order a b))
+      → IsOrderViolation (on all) a b
       → Shows initial operations VOrd lines
   order_shows a b lines each is =
       let (d, dequeues) = dequeued_if_called b is.is_dequeued in
@@ -160,7 +168,8 @@ module _ (initial : List ℕ) (operations : List Operation) (few : length initia
       ∷ (option_to_list o ++ option_to_list (dequeue_of a)))) dequeues each)
     where
       named : (d : Operation) → dequeue_of b ≡ Some d → d.kind ≡ Dequeue is.is_b.0 → (lines : List ClaimLine)
-          → AreFor lines (enqueue_of a ∷ enqueue_of b ∷ d ∷ option_to_list (dequeue_of a)) → Shows initial operations VOrd lines
+          → AreFor lines (enqueue_of a ∷ enqueue_of b ∷ d ∷ option_to_list (dequeue_of a))
+          → Shows initial operations VOrd lines
       named d dequeues kind (l ∷ m ∷ n ∷ rest) each = (
         is.is_a.0,
         is.is_b.0,
@@ -174,14 +183,18 @@ module _ (initial : List ℕ) (operations : List Operation) (few : length initia
       named d dequeues kind (l ∷ []) each = absurd each.1
       named d dequeues kind (l ∷ m ∷ []) each = absurd each.1.1
 
-  cover_shows : (empty line : ClaimLine) (o before : Operation) (frontier : ℕ) (cover : List Life) (lines : List ClaimLine)
+  cover_shows : (empty line : ClaimLine) (o before : Operation) (frontier : ℕ) (cover : List Life)
+      (lines : List ClaimLine)
       → StandsFor initial operations empty o → StandsFor initial operations line before → before.call ≡ frontier
       → AreFor lines (flat_map operations_of_life cover) → CoversFrom (on all) o frontier cover → LinesCover initial operations empty line lines
   cover_shows empty line o before frontier [] lines at_o at same each covers = absurd covers
   cover_shows empty line o before frontier (life ∷ []) lines at_o at same each covers = ends (dequeue_of life) covers.0.2 covers.2 lines each
     where
-      ends : (d : Option Operation) → MatchOption d (NoneDid all (Dequeue covers.0.0)) (λ x. Did all x (Dequeue covers.0.0)) → o.ret < call_or_never d
-          → (lines : List ClaimLine) → AreFor lines (enqueue_of life ∷ (option_to_list d ++ [])) → LinesCover initial operations empty line lines
+      ends : (d : Option Operation)
+          → MatchOption d (NoneDid all (Dequeue covers.0.0)) (λ x. Did all x (Dequeue covers.0.0))
+          → o.ret < call_or_never d
+          → (lines : List ClaimLine) → AreFor lines (enqueue_of life ∷ (option_to_list d ++ []))
+          → LinesCover initial operations empty line lines
       ends None none later (l ∷ []) each = (
         covers.0.0,
         (line_did l (enqueue_of life) (Enqueue covers.0.0) each.0 covers.0.1.1, line_precedes l line (enqueue_of life) before each.0 at (omega (arith, covers.1))),
@@ -205,7 +218,8 @@ module _ (initial : List ℕ) (operations : List Operation) (few : length initia
     where
       goes_on : (d : Operation) → d.kind ≡ Dequeue covers.0.0 → (lines : List ClaimLine)
           → AreFor lines (enqueue_of life ∷ d ∷ flat_map operations_of_life (next ∷ rest))
-          → ((m : ClaimLine) (later : List ClaimLine) → StandsFor initial operations m d → AreFor later (flat_map operations_of_life (next ∷ rest))
+          → ((m : ClaimLine) (later : List ClaimLine) → StandsFor initial operations m d
+          → AreFor later (flat_map operations_of_life (next ∷ rest))
           → LinesCover initial operations empty m later) → LinesCover initial operations empty line lines
       goes_on d kind (l ∷ m ∷ n ∷ lines) each more = (
         covers.0.0,
@@ -218,7 +232,8 @@ module _ (initial : List ℕ) (operations : List Operation) (few : length initia
       goes_on d kind (l ∷ m ∷ []) each more = absurd each.1.1
 
   -- the lines of a violation show it
-  pub violation_shows : (full : FullViolation) (lines : List ClaimLine) → AreFor lines (lines_of full) → IsViolationOf (on all) full
+  pub violation_shows : (full : FullViolation) (lines : List ClaimLine) → AreFor lines (lines_of full)
+      → IsViolationOf (on all) full
       → Shows initial operations (kind_of full) lines
   violation_shows (fresh d None) (l ∷ []) each is = (
     is.value,
@@ -259,7 +274,8 @@ module _ (initial : List ℕ) (operations : List Operation) (few : length initia
 
   module _ (complete : AreComplete all) where
     -- the operation of a line that precedes another returns before that of the other is called
-    precedes_line : (l m : ClaimLine) (o p : Operation) → StandsFor initial operations l o → StandsFor initial operations m p → LinePrecedes initial l m
+    precedes_line : (l m : ClaimLine) (o p : Operation) → StandsFor initial operations l o
+        → StandsFor initial operations m p → LinePrecedes initial l m
         → o.ret < p.call
     precedes_line l m o p (in_o, is_l) (in_p, is_m) before = by_told (line_told o in_o) (line_told p in_p)
       where
@@ -300,17 +316,21 @@ module _ (initial : List ℕ) (operations : List Operation) (few : length initia
       pub violates : IsViolationOf (on all) full
 
     -- the dequeue of a value, or none
-    dequeue_shown : (line : ClaimLine) (o : Operation) (v : ℕ) (lines : List ClaimLine) → StandsFor initial operations line o
+    dequeue_shown : (line : ClaimLine) (o : Operation) (v : ℕ) (lines : List ClaimLine)
+        → StandsFor initial operations line o
         → LeavesAfter initial operations line v lines
-        → (d : Option Operation) × AreFor lines (option_to_list d) × MatchOption d (NoneDid all (Dequeue v)) (λ x. Did all x (Dequeue v))
+        → (d : Option Operation) × AreFor lines (option_to_list d)
+        × MatchOption d (NoneDid all (Dequeue v)) (λ x. Did all x (Dequeue v))
         × (o.ret < call_or_never d)
     dequeue_shown line o v [] at none = (None, tt, (none_exactly (Dequeue v)).1 none, (times_in_range all o complete at.0).1)
     dequeue_shown line o v (l ∷ []) at (did, before) =
         let (d, at_d, is) = stood_for l (Dequeue v) did in (Some d, (at_d, tt), (at_d.0, is), precedes_line line l o d at at_d before)
     dequeue_shown line o v (l ∷ m ∷ lines) at leaves = absurd leaves
 
-    cover_shown : (empty line : ClaimLine) (o before : Operation) (frontier : ℕ) (lines : List ClaimLine) → StandsFor initial operations empty o
-        → StandsFor initial operations line before → before.call ≡ frontier → LinesCover initial operations empty line lines
+    cover_shown : (empty line : ClaimLine) (o before : Operation) (frontier : ℕ) (lines : List ClaimLine)
+        → StandsFor initial operations empty o
+        → StandsFor initial operations line before → before.call ≡ frontier
+        → LinesCover initial operations empty line lines
         → (cover : List Life) × AreFor lines (flat_map operations_of_life cover) × CoversFrom (on all) o frontier cover
     cover_shown empty line o before frontier [] at_o at same covers = absurd covers
     cover_shown empty line o before frontier (l ∷ []) at_o at same (v, enters, leaves) =
@@ -336,13 +356,15 @@ module _ (initial : List ℕ) (operations : List Operation) (few : length initia
               (omega (arith, precedes_line l line e before at_e at enters.1)) (times_in_range all d complete at_d.0).0 cover rest,
         )
       where
-        with_first : (life : Life) → IsLife (on all) life → enqueue_return life < frontier → dequeue_call life < NEVER → (cover : List Life)
+        with_first : (life : Life) → IsLife (on all) life → enqueue_return life < frontier → dequeue_call life < NEVER
+            → (cover : List Life)
             → CoversFrom (on all) o (dequeue_call life) cover → CoversFrom (on all) o frontier (life ∷ cover)
         with_first life is enters called [] covers = absurd covers
         with_first life is enters called (next ∷ rest) covers = (is, enters, called, covers)
 
     -- lines that show a violation are the lines of one
-    pub shown_violation : (kind : ViolationKind) (lines : List ClaimLine) → Shows initial operations kind lines → IsShown kind lines
+    pub shown_violation : (kind : ViolationKind) (lines : List ClaimLine) → Shows initial operations kind lines
+        → IsShown kind lines
     shown_violation VFresh (l ∷ []) (v, did, not_accepted, not_failed) =
         let (d, at, is) = stood_for l (Dequeue v) did in record {
           full = fresh d None;

@@ -3,7 +3,8 @@
 use Rattle.verdicts.proofs.Common.{ap, AreComplete, AreLinearizable, ArePartOf, arith, Bool, call_by_return, call_in}
 use Rattle.verdicts.proofs.Common.{cases_lt, chosen_of, ClaimLine, Contains, Contains-append_cases}
 use Rattle.verdicts.proofs.Common.{Contains-append_left, Contains-append_right, Contents, contents_of, Course, course}
-use Rattle.verdicts.proofs.Common.{course_on, Enqueue, enqueue_place, enqueue_stands, Event, false, filter, filter_agree}
+use Rattle.verdicts.proofs.Common.{course_on, Enqueue, enqueue_place, enqueue_stands, Event, false, filter}
+use Rattle.verdicts.proofs.Common.{filter_agree}
 use Rattle.verdicts.proofs.Common.{FullViolation, HistoryView, holds_ticket, initial_enqueue, initial_enqueues, inl}
 use Rattle.verdicts.proofs.Common.{inr, IsChosenFullViolation, IsChosenViolation, IsCompleteFrom, IsMinimal}
 use Rattle.verdicts.proofs.Common.{IsViolationOf, keeps, KeepsViolation, kept, later_by, length, line_at, lines_of}
@@ -70,7 +71,8 @@ module _ (whole : HistoryView) (values empties : ℕ → Bool) where
   call_behind o = ap (λ call. option_map_or values (value_of o.kind) (empties call)) (let e : o.call + ORIGIN - ORIGIN ≡ o.call = omega arith in e)
 
   -- a selection is part of the timeline, at other times
-  pub part_stands : (part : Contents) → part ≡ select values empties (contents_of whole) → IsWhole whole → StandsAs values (calls_behind empties)
+  pub part_stands : (part : Contents) → part ≡ select values empties (contents_of whole) → IsWhole whole
+      → StandsAs values (calls_behind empties)
       (lifted values whole.initial) (start part.initial) (timeline part.initial part.operations) (timeline_of_history whole)
   part_stands part same is = subst (λ c. StandsAs values (calls_behind empties) (lifted values whole.initial) (start c.initial)
       (timeline c.initial c.operations) (timeline_of_history whole)) (sym same)
@@ -87,10 +89,12 @@ module _ (whole : HistoryView) (values empties : ℕ → Bool) where
       → (o : Operation) × Contains (timeline_of_history whole) o × (selects values (calls_behind empties) o ≡ false)
   one_missing differs = by_lists (all_or_one values whole.initial) (all_or_one (selects values empties) (operations_of whole.events))
     where
-      by_lists : (filter values whole.initial ≡ whole.initial) ⊎ ((v : ℕ) × Contains whole.initial v × (values v ≡ false))
+      by_lists : (filter values whole.initial ≡ whole.initial)
+          ⊎ ((v : ℕ) × Contains whole.initial v × (values v ≡ false))
           → (filter (selects values empties) (operations_of whole.events) ≡ operations_of whole.events)
           ⊎ ((o : Operation) × Contains (operations_of whole.events) o × (selects values empties o ≡ false))
-          → (o : Operation) × Contains (timeline_of_history whole) o × (selects values (calls_behind empties) o ≡ false)
+          → (o : Operation) × Contains (timeline_of_history whole) o
+          × (selects values (calls_behind empties) o ≡ false)
       by_lists (inl all) (inl every) = absurd (differs (λ i. record { initial = all i; operations = every i }))
       by_lists (inl all) (inr one) = (
         later_by ORIGIN one.0,
@@ -139,7 +143,8 @@ module _ (whole : HistoryView) (violation : Violation) (is_whole : IsWhole whole
   line_shown : (o : Operation) → Contains (lines_of full) o → Contains lines (line_of o)
   line_shown o among = subst (λ ls. Contains ls (line_of o)) (sym lines_shown) (mapped_to line_of (lines_of full) o among)
 
-  shown_for : (line : ClaimLine) → Contains lines line → (o : Operation) × Contains (lines_of full) o × (line_of o ≡ line)
+  shown_for : (line : ClaimLine) → Contains lines line
+      → (o : Operation) × Contains (lines_of full) o × (line_of o ≡ line)
   shown_for line among = mapped_from line_of (lines_of full) line (subst (λ ls. Contains ls line) lines_shown among)
 
   value_shown : (o : Operation) → Contains (lines_of full) o → value_in (line_of o) ≡ value_of o.kind
@@ -168,7 +173,8 @@ module _ (whole : HistoryView) (violation : Violation) (is_whole : IsWhole whole
           (keeps call_in lines (line_of o) (o.call - ORIGIN) (line_shown o among) (line_of_call o (o.call - ORIGIN) (omega arith)))
 
   -- each selected operation belongs to a line
-  passes_for : (o : Operation) → Contains (timeline_of_history whole) o → passes o ≡ true → (line : Operation) × IsFor (lines_of full) o line
+  passes_for : (o : Operation) → Contains (timeline_of_history whole) o → passes o ≡ true
+      → (line : Operation) × IsFor (lines_of full) o line
   passes_for o among passed = by_value (value_of o.kind) refl
     where
       by_value : (w : Option ℕ) → value_of o.kind ≡ w → (line : Operation) × IsFor (lines_of full) o line
@@ -196,14 +202,17 @@ module _ (whole : HistoryView) (violation : Violation) (is_whole : IsWhole whole
   abbrev h : ℕ → ℕ
   h = lifted values whole.initial
 
-  stands : StandsAs values (calls_behind calls) h (start small.initial) (timeline_of_history small) (timeline_of_history whole)
+  stands : StandsAs values (calls_behind calls) h (start small.initial) (timeline_of_history small)
+      (timeline_of_history whole)
   stands = part_stands whole values calls (contents_of small) selected is_whole
 
-  line_selected : (o : Operation) → Contains (lines_of full) o → Contains (timeline_of_history whole) o × (passes o ≡ true)
+  line_selected : (o : Operation) → Contains (lines_of full) o
+      → Contains (timeline_of_history whole) o × (passes o ≡ true)
   line_selected o among = (in_whole o among, lines_pass o among)
 
   -- the operation of a line at the small history's times
-  brings : (o : Operation) → Contains (lines_of full) o → Contains (timeline_of_history small) (stands.back o) × (retimed h (stands.back o) ≡ o)
+  brings : (o : Operation) → Contains (lines_of full) o
+      → Contains (timeline_of_history small) (stands.back o) × (retimed h (stands.back o) ≡ o)
   brings o among = stands.brings o (in_whole o among) (lines_pass o among)
 
   abbrev small_full : FullViolation
@@ -301,16 +310,21 @@ abbrev pub selected_events : HistoryView → (ℕ → Bool) → (ℕ → Bool) �
 selected_events whole values calls = filter (λ e. holds_ticket (filter (selects values calls) (operations_of whole.events)) e.ticket) whole.events
 
 -- the selected initial values with the selected events are a complete history
-pub are_complete : (whole : HistoryView) (values calls : ℕ → Bool) (initial : List ℕ) (events : List Event) → IsCompleteFrom whole.initial whole.events
-    → initial ≡ filter values whole.initial → events ≡ selected_events whole values calls → IsCompleteFrom initial events
+pub are_complete : (whole : HistoryView) (values calls : ℕ → Bool) (initial : List ℕ) (events : List Event)
+    → IsCompleteFrom whole.initial whole.events
+    → initial ≡ filter values whole.initial → events ≡ selected_events whole values calls
+    → IsCompleteFrom initial events
 are_complete whole values calls initial events complete has_values has_tickets =
     subst (λ vs. IsCompleteFrom vs events) (sym has_values) (subst (IsCompleteFrom (filter values whole.initial)) (sym has_tickets)
     (kept_is_complete_from whole.initial whole.events complete values (selects values calls)))
 
 -- the small history has all guarantees
-pub are_shrunk : (whole : HistoryView) (violation : Violation) (values calls : ℕ → Bool) (small : HistoryView) → IsWhole whole
-    → IsChosenViolation whole.initial (operations_of whole.events) violation → SelectsNamed (violation_lines whole violation) values calls
-    → small.initial ≡ filter values whole.initial → small.events ≡ selected_events whole values calls → IsShrunk whole violation small
+pub are_shrunk : (whole : HistoryView) (violation : Violation) (values calls : ℕ → Bool) (small : HistoryView)
+    → IsWhole whole
+    → IsChosenViolation whole.initial (operations_of whole.events) violation
+    → SelectsNamed (violation_lines whole violation) values calls
+    → small.initial ≡ filter values whole.initial → small.events ≡ selected_events whole values calls
+    → IsShrunk whole violation small
 are_shrunk whole violation values calls small is_whole chosen named has_values has_tickets = record {
   kept = keeps_violation whole violation is_whole chosen values calls named small is_small selected;
   same_violation = stays whole violation is_whole chosen values calls named small is_small selected;
@@ -366,7 +380,8 @@ module _ (whole x : HistoryView) (violation : Violation) (is_x : IsWhole x) (sta
   abbrev passes_too : Operation → Bool
   passes_too = selects values (calls_behind empties)
 
-  stands_in_x : StandsAs values (calls_behind empties) (lifted values x.initial) (start part.initial) (timeline part.initial part.operations)
+  stands_in_x : StandsAs values (calls_behind empties) (lifted values x.initial) (start part.initial)
+      (timeline part.initial part.operations)
       (timeline_of_history x)
   stands_in_x = part_stands x values empties part refl is_x
 
@@ -425,14 +440,16 @@ selections_swap values empties values' empties' whole = λ i. record {
 
 -- two such selections are equal
 pub selection_is_one : (whole x y : HistoryView) (violation : Violation) → IsWhole x → IsWhole y
-    → KeepsViolation whole violation x → KeepsViolation whole violation y → StaysChosen whole violation x → StaysChosen whole violation y
+    → KeepsViolation whole violation x → KeepsViolation whole violation y → StaysChosen whole violation x
+    → StaysChosen whole violation y
     → IsMinimal (contents_of x) → IsMinimal (contents_of y) → contents_of x ≡ contents_of y
 selection_is_one whole x y violation is_x is_y keeps_x keeps_y stays_x stays_y minimal_x minimal_y =
     sym (left x is_x stays_x minimal_x y keeps_y) ∙ ap (select keeps_y.0.0 keeps_y.0.1) keeps_x.0.2
     ∙ selections_swap keeps_y.0.0 keeps_y.0.1 keeps_x.0.0 keeps_x.0.1 (contents_of whole)
     ∙ ap (select keeps_x.0.0 keeps_x.0.1) (sym keeps_y.0.2) ∙ left y is_y stays_y minimal_y x keeps_x
   where
-    left : (z : HistoryView) → IsWhole z → StaysChosen whole violation z → IsMinimal (contents_of z) → (w : HistoryView)
+    left : (z : HistoryView) → IsWhole z → StaysChosen whole violation z → IsMinimal (contents_of z)
+        → (w : HistoryView)
         → (keeps : KeepsViolation whole violation w) → select keeps.0.0 keeps.0.1 (contents_of z) ≡ contents_of z
     left z is_z stays minimal w keeps = part_is_whole whole z violation is_z stays minimal keeps.0.0 keeps.0.1
         (λ line among. subst (λ c. Contains (lines_of_history c.initial c.operations) line) keeps.0.2 (keeps.1 line among))

@@ -22,7 +22,8 @@ use Rattle.claims.specs.declared.verdict.Verdict.TheVariants as found
 use Rattle.value_match.specs.declared.matching.Matched.TheVariants as matched
 
 -- a violation by places has the kind of the violation by operations
-pub same_kind : (initial : List ℕ) (operations : List Operation) (violation : Violation) (full : FullViolation) → Names initial operations violation full
+pub same_kind : (initial : List ℕ) (operations : List Operation) (violation : Violation) (full : FullViolation)
+    → Names initial operations violation full
     → violation_kind violation ≡ kind_of full
 same_kind initial operations (Fresh deq enq) (fresh d e) names = refl
 same_kind initial operations (Repeat enq first second) (repeat e d d') names = refl
@@ -32,7 +33,8 @@ same_kind initial operations _ _ names = absurd names
 
 -- the shown operations are among those of the timeline
 shown_among : (initial : List ℕ) (operations : List Operation) (places : List LinePlace) (listed : List Operation)
-    → AllZip (IsShownAt initial operations) places listed → (o : Operation) → Contains listed o → Contains (timeline initial operations) o
+    → AllZip (IsShownAt initial operations) places listed → (o : Operation) → Contains listed o
+    → Contains (timeline initial operations) o
 shown_among initial operations places [] each o among = absurd (not_in_none o among)
 shown_among initial operations [] (x ∷ listed) each o among = absurd each
 shown_among initial operations (p ∷ places) (x ∷ listed) each o among = elim (contains_cons x listed o among) [
@@ -41,7 +43,8 @@ shown_among initial operations (p ∷ places) (x ∷ listed) each o among = elim
 ]
 
 -- the operations at places are those listed
-pub operations_there : (operations : List Operation) (places : List ℕ) (listed : List Operation) → ArePlacesOf operations places listed
+pub operations_there : (operations : List Operation) (places : List ℕ) (listed : List Operation)
+    → ArePlacesOf operations places listed
     → operations_at operations places ≡ listed
 operations_there operations [] [] at = refl
 operations_there operations (p ∷ places) (o ∷ listed) at =
@@ -54,15 +57,18 @@ operations_there operations _ _ at = cc
 -- ---- evidence for a `NO`
 
 -- operations of the timeline are stood for by their lines
-each_stands : (initial : List ℕ) (operations listed : List Operation) → ((o : Operation) → Contains listed o → Contains (timeline initial operations) o)
+each_stands : (initial : List ℕ) (operations listed : List Operation)
+    → ((o : Operation) → Contains listed o → Contains (timeline initial operations) o)
     → AllZip (StandsFor initial operations) (map line_of listed) listed
 each_stands initial operations [] among = tt
 each_stands initial operations (o ∷ listed) among =
     ((among o (zero, omega arith, refl), refl), each_stands initial operations listed (λ x later. among x (one_deeper o listed x later)))
 
 -- a violation of the timeline is evidence, by the places that name it
-pub named_is_evidence : (initial : List ℕ) (operations : List Operation) (violation : Violation) (full : FullViolation) → length initial ≤ MAX_INITIAL
-    → Names initial operations violation full → IsViolationOf (on (timeline initial operations)) full → IsEvidence initial operations (found.No violation)
+pub named_is_evidence : (initial : List ℕ) (operations : List Operation) (violation : Violation) (full : FullViolation)
+    → length initial ≤ MAX_INITIAL
+    → Names initial operations violation full → IsViolationOf (on (timeline initial operations)) full
+    → IsEvidence initial operations (found.No violation)
 named_is_evidence initial operations violation full few names is =
     let each = each_shown initial operations few violation full names in
     let shows = violation_shows initial operations few full (map line_of (lines_of full)) (each_stands initial operations (lines_of full)
@@ -74,7 +80,8 @@ named_is_evidence initial operations violation full few names is =
     )
 
 -- lines that show a violation leave no linearization
-pub shown_excludes_order : (initial : List ℕ) (operations : List Operation) (kind : ViolationKind) (lines : List ClaimLine)
+pub shown_excludes_order : (initial : List ℕ) (operations : List Operation) (kind : ViolationKind)
+    (lines : List ClaimLine)
     → AreComplete (timeline initial operations) → Shows initial operations kind lines → ¬ (IsLinearizable initial operations)
 shown_excludes_order initial operations kind lines complete shows =
     let shown = shown_violation initial operations (few_initial initial operations complete) complete kind lines shows in
@@ -110,7 +117,8 @@ true_claim_decides initial events (claimed.No kind lines) complete few claim =
     shown_excludes_order initial (operations_of events) kind lines (timeline_is_complete initial events complete few) claim
 
 -- a chosen violation decides a history
-pub no_is_decided : (initial : List ℕ) (operations : List Operation) (violation : Violation) → IsOfHistory initial operations
+pub no_is_decided : (initial : List ℕ) (operations : List Operation) (violation : Violation)
+    → IsOfHistory initial operations
     → IsChosenViolation initial operations violation → IsDecided initial operations (found.No violation)
 no_is_decided initial operations violation is_history chosen =
     let (few, complete) = timeline_of_history initial operations is_history in
@@ -126,14 +134,16 @@ no_is_decided initial operations violation is_history chosen =
 -- a violation that matching returns is the chosen one, so it decides the history
 pub refused_is_decided : (initial : List ℕ) (operations : List Operation) (answer : Matched) (violation : Violation)
     → IsOfHistory initial operations → IsMatched initial operations answer
-    → (answer ≡ matched.Fresh violation) ⊎ (answer ≡ matched.Repeat violation) → IsDecided initial operations (found.No violation)
+    → (answer ≡ matched.Fresh violation) ⊎ (answer ≡ matched.Repeat violation)
+    → IsDecided initial operations (found.No violation)
 refused_is_decided initial operations answer violation is_history is failed = no_is_decided initial operations violation is_history (elim failed [
   | inl same ↦ let h = subst (IsMatched initial operations) same is in (fresh h.0 h.1, h.2, h.3)
   | inr same ↦ let h = subst (IsMatched initial operations) same is in (repeat h.0 h.1 h.2, h.3, h.4)
 ])
 
 -- a matching that is returned has neither of the first two kinds of violation
-pub matching_is_clear : (initial : List ℕ) (operations : List Operation) (answer : Matched) (matching : Contents) → IsMatched initial operations answer
+pub matching_is_clear : (initial : List ℕ) (operations : List Operation) (answer : Matched) (matching : Contents)
+    → IsMatched initial operations answer
     → answer ≡ matched.Clear matching → IsClear (course_of matching)
 matching_is_clear initial operations answer matching is same =
     let found = subst (IsMatched initial operations) same is in subst (λ m. IsClear (course_of m)) (sym found.0) found.1

@@ -1,7 +1,8 @@
 use Rattle.std.proofs.Common.{◌∙◌, subst, sym, ap, arith, length, List}
 use Rattle.event_records.specs.declared.event.Event.{Event}
 use Rattle.completions.specs.Pending.{IsDeciding}
-use Rattle.completions.proofs.Sound.{carries, complete_stays, known_ok, may_be_pending, when_both, when_known, when_ok, within_limits}
+use Rattle.completions.proofs.Sound.{carries, complete_stays, known_ok, may_be_pending, when_both, when_known, when_ok}
+use Rattle.completions.proofs.Sound.{within_limits}
 use Rattle.completions.proofs.Decides.{decides}
 use Rattle.completions.proofs.completion.complete.Goals as goal
 

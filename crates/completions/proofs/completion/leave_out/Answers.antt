@@ -1,11 +1,13 @@
-use Rattle.std.proofs.Common.{◌∙◌, ◌+◌, ◌++◌, ◌∷◌, ◌≡◌, ◌<◌, [], ap, arith, get_or, get_or-set_other, length, length-set, List, not, refl, set, sym}
+use Rattle.std.proofs.Common.{◌∙◌, ◌+◌, ◌++◌, ◌∷◌, ◌≡◌, ◌<◌, [], ap, arith, get_or, get_or-set_other, length}
+use Rattle.std.proofs.Common.{length-set, List, not, refl, set, sym}
 use Rattle.std.proofs.Common.{Bool, take, Vec, Global, ℕ}
 use Rattle.std.specs.Prelude.{filter}
 use Rattle.std.proofs.lemmas.List.{get_or_read, set-get_or, take_more_set}
 use Rattle.event_records.specs.declared.event.Event.{Event}
 use Rattle.completions.specs.Completed.{is_left_out}
 use Rattle.completions.proofs.Walks.{all_stay, filtered_more, filtered_same, past_end}
-use Rattle.completions.proofs.completion.leave_out.Goals.{then-not-is_left_out, else-not-is_left_out, then-kept-place, else-kept-place}
+use Rattle.completions.proofs.completion.leave_out.Goals.{then-not-is_left_out, else-not-is_left_out, then-kept-place}
+use Rattle.completions.proofs.completion.leave_out.Goals.{else-kept-place}
 use Rattle.completions.proofs.completion.leave_out.Goals as goal
 
 pub loop-place-init : goal.loop-place-init

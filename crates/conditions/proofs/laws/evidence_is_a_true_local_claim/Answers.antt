@@ -1,4 +1,5 @@
-use Rattle.conditions.proofs.ClaimLaws.{local_evidence_is_a_true_claim, refuted_is_refuted_in_the_whole, weak_evidence_is_a_true_claim}
+use Rattle.conditions.proofs.ClaimLaws.{local_evidence_is_a_true_claim, refuted_is_refuted_in_the_whole}
+use Rattle.conditions.proofs.ClaimLaws.{weak_evidence_is_a_true_claim}
 use Rattle.conditions.proofs.laws.evidence_is_a_true_local_claim.Goals as goal
 
 pub returns-clause-local : goal.returns-clause-local

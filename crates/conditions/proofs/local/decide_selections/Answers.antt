@@ -4,7 +4,8 @@ use Rattle.conditions.specs.Conditions.{selection_of}
 use Rattle.conditions.specs.Decided.{AreLocalOrders, IsDecidedOf}
 use Rattle.conditions.specs.Inner.Judging.{AreJudged}
 use Rattle.conditions.proofs.Judged.{all_judged, first_refuted, judged_more, judged_same, places_of_rank}
-use Rattle.conditions.proofs.local.decide_selections.Goals.{then-selections-rank+in_ok-order+in-Yes+in_ok-push-in-Yes, else-selections-rank}
+use Rattle.conditions.proofs.local.decide_selections.Goals.{then-selections-rank+in_ok-order+in-Yes+in_ok-push-in-Yes}
+use Rattle.conditions.proofs.local.decide_selections.Goals.{else-selections-rank}
 use Rattle.conditions.proofs.local.decide_selections.Goals as goal
 
 pub returns-in-No : goal.returns-in-No

@@ -14,7 +14,8 @@ use Rattle.conditions.specs.Inner.Producers.{goes_to, share_of}
 use Rattle.conditions.proofs.Producing.{initial_selected, selected_by_share}
 use Rattle.conditions.proofs.local.part_for.Goals as goal
 
-selected : (whole : HistoryView) (emptiness : Emptiness) (p : Producer) (read own : List ℕ) (from : List Operation) (places : List ℕ)
+selected : (whole : HistoryView) (emptiness : Emptiness) (p : Producer) (read own : List ℕ) (from : List Operation)
+    (places : List ℕ)
     → own ≡ initial_of p read → read ≡ whole.initial → from ≡ operations_of whole.events
     → ArePlacesOf from places (filter (λ o. goes_to p (share_of (contents_of whole) emptiness o.kind)) from)
     → AreSelected (contents_of whole) (counts_for (contents_of whole) p) (λ call. judges_empties emptiness) own places

@@ -11,8 +11,10 @@ use Rattle.conditions.specs.Inner.Parts.{AreSelected, initial_of}
 use Rattle.conditions.proofs.Producing.{initial_selected}
 use Rattle.conditions.proofs.selections.part_at.Goals as goal
 
-selected : (whole : HistoryView) (emptiness : Emptiness) (p : Producer) (read own places copied : List ℕ) → own ≡ initial_of p read
-    → read ≡ whole.initial → copied ≡ places → ArePlacesOf (operations_of whole.events) places (selection_of emptiness p (contents_of whole)).operations
+selected : (whole : HistoryView) (emptiness : Emptiness) (p : Producer) (read own places copied : List ℕ)
+    → own ≡ initial_of p read
+    → read ≡ whole.initial → copied ≡ places
+    → ArePlacesOf (operations_of whole.events) places (selection_of emptiness p (contents_of whole)).operations
     → AreSelected (contents_of whole) (counts_for (contents_of whole) p) (λ call. judges_empties emptiness) own copied
 selected whole emptiness p read own places copied is_own is_read is_copy at = record {
   initial_values = is_own ∙ ap (initial_of p) is_read ∙ sym (initial_selected (contents_of whole) p);

@@ -6,9 +6,11 @@ use Rattle.conditions.specs.Claims.{AreOrdersInTurn}
 use Rattle.conditions.specs.Conditions.{selection_of}
 use Rattle.conditions.specs.Inner.Sharing.{ranked}
 use Rattle.history_merge.proofs.PlaceLists.{as_many_placed}
-use Rattle.conditions.proofs.InTurn.{all_compared, IsLeft, left_from, left_idle, left_refused, left_used, not_legal, too_short}
+use Rattle.conditions.proofs.InTurn.{all_compared, IsLeft, left_from, left_idle, left_refused, left_used, not_legal}
+use Rattle.conditions.proofs.InTurn.{too_short}
 use Rattle.conditions.proofs.Judged.{places_of_rank, used_is}
-use Rattle.conditions.proofs.verifying.are_orders_in_turn.Goals.{then-selections-rank+else-rest-places+in_ok-is_order_of+else-not-branch, else-selections-rank}
+use Rattle.conditions.proofs.verifying.are_orders_in_turn.Goals.{then-selections-rank+else-rest-places+in_ok-is_order_of+else-not-branch}
+use Rattle.conditions.proofs.verifying.are_orders_in_turn.Goals.{else-selections-rank}
 use Rattle.conditions.proofs.verifying.are_orders_in_turn.Goals as goal
 
 pub returns-then-rest-places : goal.returns-then-rest-places

@@ -7,7 +7,8 @@ use Rattle.conditions.specs.Conditions.{has_values, selection_of}
 use Rattle.conditions.specs.Inner.Sharing.{ranked}
 use Rattle.conditions.proofs.InTurn.{IsOfNone, of_none}
 use Rattle.conditions.proofs.Judged.{places_of_rank, used_is}
-use Rattle.conditions.proofs.verifying.is_true_of_some.Goals.{then-selections-rank+in_ok-is_true_of+else-branch, else-selections-rank}
+use Rattle.conditions.proofs.verifying.is_true_of_some.Goals.{then-selections-rank+in_ok-is_true_of+else-branch}
+use Rattle.conditions.proofs.verifying.is_true_of_some.Goals.{else-selections-rank}
 use Rattle.conditions.proofs.verifying.is_true_of_some.Goals as goal
 
 pub returns-then-branch : goal.returns-then-branch

@@ -10,8 +10,10 @@ use Rattle.conditions.specs.Inner.Parts.{AreSelected}
 use Rattle.conditions.proofs.Parts.{all_pass}
 use Rattle.conditions.proofs.weak.part_without_empties.Goals as goal
 
-selected : (whole : HistoryView) (read copied : List ℕ) (from : List Operation) (places : List ℕ) → copied ≡ read → read ≡ whole.initial
-    → from ≡ operations_of whole.events → ArePlacesOf from places (filter (selects (λ value. true) (λ call. false)) from)
+selected : (whole : HistoryView) (read copied : List ℕ) (from : List Operation) (places : List ℕ) → copied ≡ read
+    → read ≡ whole.initial
+    → from ≡ operations_of whole.events
+    → ArePlacesOf from places (filter (selects (λ value. true) (λ call. false)) from)
     → AreSelected (contents_of whole) (λ value. true) (λ call. false) copied places
 selected whole read copied from places is_copy is_read is_from are = record {
   initial_values = is_copy ∙ is_read ∙ sym (all_pass whole.initial);

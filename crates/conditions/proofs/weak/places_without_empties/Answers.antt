@@ -1,4 +1,5 @@
-use Rattle.std.proofs.Common.{◌∙◌, ◌+◌, ◌++◌, ◌∷◌, [], ap, sym, subst, take, get_or, ℕ, true, false, arith, Vec, Global}
+use Rattle.std.proofs.Common.{◌∙◌, ◌+◌, ◌++◌, ◌∷◌, [], ap, sym, subst, take, get_or, ℕ, true, false, arith, Vec}
+use Rattle.std.proofs.Common.{Global}
 use Rattle.std.specs.Prelude.{filter, slice_get}
 use Rattle.history_merge.specs.Legal.{ArePlacesOf}
 use Rattle.std.proofs.lemmas.Option.{slice_get-get_or}

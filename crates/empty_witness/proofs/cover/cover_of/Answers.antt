@@ -12,7 +12,8 @@ loop-frontier-init c =
     c.values-values.ensures.clear c.values-values.ensures.values c.requires.is_empty c.requires.covered)
 
 -- the table finds the longest of all values
-finds : (c : After-longest_before) → FindsLongest (EntersBefore c.loop-frontier.frontier) c.values-values.result c.longest_before.result
+finds : (c : After-longest_before)
+    → FindsLongest (EntersBefore c.loop-frontier.frontier) c.values-values.result c.longest_before.result
 finds c =
     let others = subst (λ values. FindsLongest (EntersBefore c.loop-frontier.frontier) values c.longest_before.result)
     (c.in_ok-table.ensures ∙ c.split_at-gone.ensures.others) c.longest_before.ensures in
@@ -29,7 +30,8 @@ unwrap-value-requires c =
     (finds (goal.at.unwrap-value-requires c).After-longest_before)
 
 -- the value of this turn
-longest : (c : After-unwrap-value) → IsLongestOf (EntersBefore c.loop-frontier.frontier) c.values-values.result c.unwrap-value.result
+longest : (c : After-unwrap-value)
+    → IsLongestOf (EntersBefore c.loop-frontier.frontier) c.values-values.result c.unwrap-value.result
 longest c =
     found_longest c.values-values.result c.loop-frontier.frontier c.longest_before.result c.unwrap-value.result
     (finds (goal.at.After-unwrap-value c).After-longest_before) c.unwrap-value.ensures

@@ -4,7 +4,8 @@ use Rattle.empty_witness.proofs.Answers.{answer_timed}
 use Rattle.empty_witness.proofs.search.answer_at.Goals.{After-unwrap-operation}
 use Rattle.empty_witness.proofs.search.answer_at.Goals as goal
 
-answer : (c : After-unwrap-operation) → IsAt (timed c.args.matching.now.operations) c.args.empty (later_by ORIGIN c.unwrap-operation.result)
+answer : (c : After-unwrap-operation)
+    → IsAt (timed c.args.matching.now.operations) c.args.empty (later_by ORIGIN c.unwrap-operation.result)
     × Did (timed c.args.matching.now.operations) (later_by ORIGIN c.unwrap-operation.result) DequeueEmpty
     × (c.unwrap-operation.result.call ≤ c.unwrap-operation.result.ret) × (c.unwrap-operation.result.ret + ORIGIN < NEVER)
 answer c =

@@ -4,6 +4,7 @@ use Rattle.history_merge.proofs.events.event_count.Given as goal
 
 abbrev pub invariant-loop-operation : goal.invariant-loop-operation
 invariant-loop-operation l = record {
-  counted : l.count + count_by has_returned l.operation-iterator ≡ length l.operations + count_by has_returned l.operations;
+  counted : l.count + count_by has_returned l.operation-iterator
+      ≡ length l.operations + count_by has_returned l.operations;
   few : l.count + length l.operation-iterator ≤ length l.operations + length l.operations;
 }

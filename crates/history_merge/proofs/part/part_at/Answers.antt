@@ -1,4 +1,5 @@
-use Rattle.std.proofs.Common.{◌≡◌, ◌∙◌, ◌∷◌, ◌++◌, [], ap, arith, length, List, refl, Some, subst, sym, take, ℕ, ◌<◌, ◌≤◌}
+use Rattle.std.proofs.Common.{◌≡◌, ◌∙◌, ◌∷◌, ◌++◌, [], ap, arith, length, List, refl, Some, subst, sym, take, ℕ, ◌<◌}
+use Rattle.std.proofs.Common.{◌≤◌}
 use Rattle.std.specs.Prelude.{slice_get}
 use Rattle.std.proofs.lemmas.List.{take_all}
 use Rattle.event_records.specs.declared.event.Event.{Event}
@@ -15,7 +16,8 @@ use Rattle.history_merge.proofs.part.part_at.Goals.{in-Some+in_ok-push, in_defau
 use Rattle.history_merge.proofs.part.part_at.Goals as goal
 
 -- an operation of a complete history is in the range of tickets
-in_range : (events : List Event) (operations : List Operation) (place : ℕ) (o : Operation) → operations ≡ operations_of events → IsCompleteHistory events
+in_range : (events : List Event) (operations : List Operation) (place : ℕ) (o : Operation)
+    → operations ≡ operations_of events → IsCompleteHistory events
     → slice_get operations place ≡ Some o → (o.call < o.ret) × (o.ret ≤ MAX_TICKET)
 in_range events operations place o is complete at =
     operation_within events o complete (contains_at (operations_of events) place o (ap (λ os. slice_get os place) (sym is) ∙ at))
@@ -54,7 +56,8 @@ loop-place-preserved c =
     ]
 
 -- the operations are those of the part
-formed_of : (operations all : List Operation) (events : List Event) (n : ℕ) → operations ≡ take n all → length all ≤ n → all ≡ operations_of events
+formed_of : (operations all : List Operation) (events : List Event) (n : ℕ) → operations ≡ take n all → length all ≤ n
+    → all ≡ operations_of events
     → IsCompleteHistory events → IsFormedOf events operations
 formed_of operations all events n is past same complete =
     formed_of_complete events operations complete (is ∙ take_all n all past ∙ same ∙ sym (all_formed events complete))

@@ -6,7 +6,8 @@ use Rattle.history_stats.proofs.overtaking.find_all.Given as goal
 
 abbrev pub invariant-loop-taking : goal.invariant-loop-taking
 invariant-loop-taking l = record {
-  few : (k : ℕ) (d : Taking) → l.taking-index ≤ k → k < length l.takings → l.put ≤ count_by (λ s. nat_lt s.put (get_or l.takings k d).enqueue_call) l.stays;
+  few : (k : ℕ) (d : Taking) → l.taking-index ≤ k → k < length l.takings
+      → l.put ≤ count_by (λ s. nat_lt s.put (get_or l.takings k d).enqueue_call) l.stays;
   within : l.put ≤ length l.stays;
   tallied : AreTallied (length l.calls) l.stays l.put l.tally.levels.items;
   found : l.found.items ≡ filter_map (overtaking_among l.calls l.stays) (take l.taking-index l.takings);

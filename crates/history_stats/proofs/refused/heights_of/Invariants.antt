@@ -5,5 +5,6 @@ use Rattle.history_stats.proofs.refused.heights_of.Given as goal
 abbrev pub invariant-loop-place : goal.invariant-loop-place
 invariant-loop-place l = record {
   one_each : length l.heights.items ≡ l.place;
-  each : (k : ℕ) → k < l.place → get_or l.heights.items k 0 ≡ l.first + (k + 1) - count_before (get_or l.arrivals k 0 + 1) l.departures;
+  each : (k : ℕ) → k < l.place
+      → get_or l.heights.items k 0 ≡ l.first + (k + 1) - count_before (get_or l.arrivals k 0 + 1) l.departures;
 }

@@ -6,7 +6,8 @@ use Rattle.history_merge.specs.declared.operation.Operation.{Operation}
 use Rattle.history_stats.specs.AtOnce.{IsMost, stay_count, values_put_before}
 use Rattle.history_stats.specs.Overtaking.{greatest}
 use Rattle.history_stats.specs.Refusing.{IsRefusedAt, NoRefusal, left_count, values_called_before}
-use Rattle.history_stats.specs.Counts.{change_count, is_dequeued, is_empty, is_enqueued, is_refused, kind_count, overlapping_count, tenths_of_percent, thread_count}
+use Rattle.history_stats.specs.Counts.{change_count, is_dequeued, is_empty, is_enqueued, is_refused, kind_count}
+use Rattle.history_stats.specs.Counts.{overlapping_count, tenths_of_percent, thread_count}
 use Rattle.history_stats.proofs.statistics.statistics_of.Goals as goal
 
 pub most_pending-requires-clause-forward : goal.most_pending-requires-clause-forward

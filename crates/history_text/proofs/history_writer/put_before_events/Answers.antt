@@ -3,7 +3,8 @@ use Rattle.history_text.proofs.Common.{spaced, ℕ, ◌++◌, ◌∷◌, ◌≡�
 use Rattle.history_text.proofs.history_writer.put_before_events.Goals as goal
 
 -- the header line, a word, a number and a line feed are the header and the count line
-begun : (n : ℕ) (a b d e : List ℕ) → a ≡ [] → b ≡ a ++ (line (codes "fifo-history 2") ++ codes "initial ") → d ≡ b ++ decimal n
+begun : (n : ℕ) (a b d e : List ℕ) → a ≡ [] → b ≡ a ++ (line (codes "fifo-history 2") ++ codes "initial ")
+    → d ≡ b ++ decimal n
     → e ≡ d ++ 10 ∷ [] → e ≡ line (codes "fifo-history 2") ++ line (spaced (count_fields n))
 begun n a b d e empty word digits ending =
     rw (ending, digits, word, empty) (append_assoc (line (codes "fifo-history 2") ++ codes "initial ") (decimal n) (10 ∷ []))

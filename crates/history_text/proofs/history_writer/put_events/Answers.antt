@@ -4,7 +4,8 @@ use Rattle.history_text.proofs.Common.{◌∙◌, ◌∷◌, ◌≡◌}
 use Rattle.history_text.proofs.history_writer.put_events.Goals as goal
 
 -- the text of the seen events and of those left is the text of all
-parts : (seen left all : List Event) → seen ++ left ≡ all → flat_map event_line seen ++ flat_map event_line left ≡ flat_map event_line all
+parts : (seen left all : List Event) → seen ++ left ≡ all
+    → flat_map event_line seen ++ flat_map event_line left ≡ flat_map event_line all
 parts seen left all is = sym (flat_map-append event_line seen left) ∙ ap (flat_map event_line) is
 
 -- if no event is left, all were seen
@@ -12,7 +13,8 @@ whole : (seen left all : List Event) → left ≡ [] → seen ++ left ≡ all �
 whole seen left all none is = sym (append-nil seen) ∙ ap (λ (es : List Event). seen ++ es) (sym none) ∙ is
 
 -- one more line
-one_more : (seen : List Event) (e : Event) → flat_map event_line (seen ++ e ∷ []) ≡ flat_map event_line seen ++ event_line e
+one_more : (seen : List Event) (e : Event)
+    → flat_map event_line (seen ++ e ∷ []) ≡ flat_map event_line seen ++ event_line e
 one_more seen e = flat_map-append event_line seen (e ∷ []) ∙ ap (λ (r : List ℕ). flat_map event_line seen ++ r) (append-nil (event_line e))
 
 pub returns-in_err-put_one-clause-text : goal.returns-in_err-put_one-clause-text

@@ -1,5 +1,6 @@
 use Rattle.history_text.proofs.Common.{[], append-nil, sym, ◌∙◌}
-use Rattle.history_text.proofs.OnePending.{cut_or_fault, one_cut, one_pending_fault, one_whole, whole_or_cut, whole_or_fault}
+use Rattle.history_text.proofs.OnePending.{cut_or_fault, one_cut, one_pending_fault, one_whole, whole_or_cut}
+use Rattle.history_text.proofs.OnePending.{whole_or_fault}
 use Rattle.history_text.proofs.laws.one_pending_text.Goals as goal
 
 pub returns-clause-whole : goal.returns-clause-whole

@@ -22,10 +22,12 @@ first_left-first_out-requires-clause-flagged c = rw c.deref-in-loop-entries.ensu
     (flags_within dequeue_return _ _ _ (rw c.as_slice-dequeues.ensures.value c.in_ok-by_time.ensures.dequeues) c.loop-entries.invariant.one_flag_each)
 
 -- each cursor is at the first entry of its list that is left
-entered : (c : After-first_left-first_in) → IsFirstLeft c.as_slice-entries.result.now c.loop-entries.taken.items c.first_left-first_in.result
+entered : (c : After-first_left-first_in)
+    → IsFirstLeft c.as_slice-entries.result.now c.loop-entries.taken.items c.first_left-first_in.result
 entered c = rw c.deref.ensures.value at c.first_left-first_in.ensures
 
-dequeued : (c : After-first_left-first_out) → IsFirstLeft c.as_slice-dequeues.result.now c.loop-entries.taken.items c.first_left-first_out.result
+dequeued : (c : After-first_left-first_out)
+    → IsFirstLeft c.as_slice-dequeues.result.now c.loop-entries.taken.items c.first_left-first_out.result
 dequeued c = rw c.deref-in-loop-entries.ensures.value at c.first_left-first_out.ensures
 
 -- some value is left, so the first cursor is at an entry

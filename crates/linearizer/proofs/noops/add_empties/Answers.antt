@@ -19,7 +19,8 @@ bounds-gaps-at c =
     omega (arith, within, long, length-map c.args.gaps.now time_of)
 
 -- its gap is its least free one
-free : (c : After-get) → IsLeastFreeGap (course_of c.args.matching.now) (turn c).o (time_of (get_or c.args.gaps.now c.loop-at.at 0))
+free : (c : After-get) → IsLeastFreeGap (course_of c.args.matching.now) (turn c).o
+    (time_of (get_or c.args.gaps.now c.loop-at.at 0))
 free c = gap_beside (course_of c.args.matching.now) _ c.args.gaps.now _ _ 0 (turn c).o c.requires.gaps (turn c).is_listed refl
 
 pub new-requires-clause-place : goal.new-requires-clause-place

@@ -4,7 +4,8 @@ use Rattle.linearizer.proofs.OneOrder.{noops_held, noops_never_fall, noops_withi
 use Rattle.linearizer.proofs.noops.noops_of.Goals as goal
 use Rattle.linearizer.proofs.noops.noops_of.Goals.{After-sort_unstable_by_key}
 
-first : (c : After-sort_unstable_by_key) → Adds c.args.matching.now (filter is_empty_answer (timed c.args.matching.now.operations)) []
+first : (c : After-sort_unstable_by_key)
+    → Adds c.args.matching.now (filter is_empty_answer (timed c.args.matching.now.operations)) []
     c.add_empties.new.noops.items
 first c = subst (λ old. Adds c.args.matching.now (filter is_empty_answer (timed c.args.matching.now.operations)) old c.add_empties.new.noops.items)
     c.in_ok-noops.ensures.items c.in_ok-add_empties.ensures

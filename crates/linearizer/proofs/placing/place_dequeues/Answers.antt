@@ -21,10 +21,12 @@ turn : (c : After-max-left) → IsTurn c.args.matching.now (ordered_lives c.args
 turn c = turn_is _ _ _ _ _ c.values-values.ensures.clear c.values-values.ensures.values c.requires.order
     (slice_get_read _ _ _ _ refl c.loop-so_far-test.true c.index-order-rank.is ∙ ap Some (sym c.unpack-entered.ensures)) _ c.get-value.ensures
 
-left_is : (c : After-max-left) → c.max-left.result ≡ max (leaves_from c.get-value.result.life) c.loop-so_far.so_far.left
+left_is : (c : After-max-left)
+    → c.max-left.result ≡ max (leaves_from c.get-value.result.life) c.loop-so_far.so_far.left
 left_is c = c.max-left.ensures ∙ ap (λ n. max n c.loop-so_far.so_far.left) c.leaves_from.ensures
 
-within : (c : After-max-left) → c.loop-so_far.so_far.dequeues < length (ordered_lives c.args.matching.now c.args.order.now)
+within : (c : After-max-left)
+    → c.loop-so_far.so_far.dequeues < length (ordered_lives c.args.matching.now c.args.order.now)
 within c = slice_get_within _ _ _ (turn c).at
 
 -- the time from which all values up to this one can have left, once those before it are merged

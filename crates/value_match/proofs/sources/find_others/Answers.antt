@@ -7,13 +7,15 @@ use Rattle.value_match.proofs.sources.find_others.Goals.{After-index-sources-pla
 use Rattle.value_match.proofs.sources.find_others.Goals as goal
 
 -- the source read at the operation's place
-read : (c : After-index-sources-place) → c.index-sources-place.result ≡ get_or c.loop-place.sources (c.loop-place.place - c.args.prefix) None
+read : (c : After-index-sources-place)
+    → c.index-sources-place.result ≡ get_or c.loop-place.sources (c.loop-place.place - c.args.prefix) None
 read c = get_or_read c.loop-place.sources _ _
     (omega (arith, c.loop-place-test.true, c.loop-place.auto.place, c.loop-place.invariant.one_each)) c.index-sources-place.is None
 
 -- the source is near, if there is one
 near : (c : After-index-sources-place) (o : Operation) → IsAt c.args.operations.now c.loop-place.place o
-    → IsNearSource c.loop-place.invariant.wanted c.args.operations.now o.kind (get_or c.loop-place.sources (c.loop-place.place - c.args.prefix) None)
+    → IsNearSource c.loop-place.invariant.wanted c.args.operations.now o.kind
+    (get_or c.loop-place.sources (c.loop-place.place - c.args.prefix) None)
 near c o here = c.loop-place.invariant.near _ o (omega (arith, c.loop-place.auto.place)) (behind_at _ _ _ o c.loop-place.auto.place here)
 
 pub loop-place-init : goal.loop-place-init

@@ -1,4 +1,5 @@
-use Rattle.value_match.proofs.Common.{ap, IsMatchedPrefix, arith, get_or_read, length, None, refl, slice_get_read, Some}
+use Rattle.value_match.proofs.Common.{ap, IsMatchedPrefix, arith, get_or_read, length, None, refl, slice_get_read}
+use Rattle.value_match.proofs.Common.{Some}
 use Rattle.value_match.proofs.Common.{subst, sym, TakesFrom, ◌<◌, ◌∙◌, ◌≡◌}
 use Rattle.value_match.proofs.CallPlaces.{call_within, no_source, none_if}
 use Rattle.value_match.proofs.FreshDequeues.{in_time_more, no_dequeue}

@@ -7,7 +7,8 @@ use Rattle.value_match.proofs.takers.find_takers.Goals.{After-get, After-in_orde
 use Rattle.value_match.proofs.takers.find_takers.Goals as goal
 
 -- the operation that the walk reads
-here : (c : After-get) → (o : Operation) × IsAt c.args.operations.now c.loop-place.place o × IsSourceOf c.args.operations.now o.kind c.get.result
+here : (c : After-get) → (o : Operation) × IsAt c.args.operations.now c.loop-place.place o
+    × IsSourceOf c.args.operations.now o.kind c.get.result
 here c =
     let d : Operation = record { call = 0; ret = 0; thread = 0; kind = Enqueue 0 } in
     let at = slice_get-get_or c.args.operations.now c.loop-place.place d c.loop-place-test.true in
@@ -39,7 +40,8 @@ earlier : (c : In-Some-get) → c.in-Some-get.other < c.loop-place.place
 earlier c = (c.loop-place.invariant.kept.taken c.in-Some.source c.in-Some-get.other (held c)).0
 
 inside : (c : After-in_order-pair) → c.in-Some-get.other < c.loop-place.place
-    → (c.in_order-pair.result.first < length c.args.operations.now) × (c.in_order-pair.result.second < length c.args.operations.now)
+    → (c.in_order-pair.result.first < length c.args.operations.now)
+    × (c.in_order-pair.result.second < length c.args.operations.now)
 inside c before =
     let here = c.loop-place-test.true in
     let both = c.in_order-pair.ensures.both in

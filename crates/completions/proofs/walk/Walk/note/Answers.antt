@@ -5,7 +5,9 @@ use Rattle.completions.specs.Completed.{given_value}
 use Rattle.completions.specs.Inner.Walk.{AreLast}
 use Rattle.completions.specs.declared.walk.Walk.{Walk}
 use Rattle.completions.proofs.Walks.{not_given, not_taken, walked_on}
-use Rattle.completions.proofs.walk.Walk.note.Goals.{in-RetDeq+in_ok-push-in-RetDeq, in-RetEnq+in-Some+in_ok-push-in-Some, in-RetEnq+in-None, in_default}
+use Rattle.completions.proofs.walk.Walk.note.Goals.{in-RetDeq+in_ok-push-in-RetDeq}
+use Rattle.completions.proofs.walk.Walk.note.Goals.{in-RetEnq+in-Some+in_ok-push-in-Some, in-RetEnq+in-None}
+use Rattle.completions.proofs.walk.Walk.note.Goals.{in_default}
 use Rattle.completions.proofs.walk.Walk.note.Goals as goal
 
 pub returns : goal.returns

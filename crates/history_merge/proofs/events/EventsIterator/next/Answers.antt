@@ -1,14 +1,17 @@
 use Rattle.history_merge.proofs.Common.{ap, AreLeft, arith, Event, events_of, item_count, List, MakesProgress}
 use Rattle.history_merge.proofs.Common.{put_each, set, Some, sym, ◌∙◌, ◌∷◌, ◌≡◌}
-use Rattle.history_merge.proofs.TheirEvents.{GivesCall, GivesReturn, IsFirstOfAll, first_of_all, gives_call, gives_nothing, gives_return}
-use Rattle.history_merge.proofs.TheirEvents.{left_after_call, left_after_return, left_as_told, stays_none, still_none, told}
+use Rattle.history_merge.proofs.TheirEvents.{GivesCall, GivesReturn, IsFirstOfAll, first_of_all, gives_call}
+use Rattle.history_merge.proofs.TheirEvents.{gives_nothing, gives_return}
+use Rattle.history_merge.proofs.TheirEvents.{left_after_call, left_after_return, left_as_told, stays_none, still_none}
+use Rattle.history_merge.proofs.TheirEvents.{told}
 use Rattle.history_merge.proofs.events.EventsIterator.next.Goals as goal
 use Rattle.history_merge.proofs.events.EventsIterator.next.Goals.{After-maybe_return, After-branch-event}
 
 -- ---- a call comes first
 
 call : (c : After-maybe_return)
-    → GivesCall (put_each c.self.inside.due (events_of c.self.inside.by_call)) c.in-Some.operation c.in-Some.by_call c.self.inside.due
+    → GivesCall (put_each c.self.inside.due
+    (events_of c.self.inside.by_call)) c.in-Some.operation c.in-Some.by_call c.self.inside.due
 call c = grind (arith, gives_call, first_of_all)
 
 after_call : (c : After-maybe_return)
@@ -30,7 +33,8 @@ invariant_of-self c =
 
 -- one more item leaves fewer
 goes : (old new : List Event) (e : Event) → old ≡ e ∷ new
-    → MakesProgress {S = List Event} {A = Event} (λ _. Unit {0}) (item_count {S = List Event} {A = Event} (λ rest. rest)) old (Some e) new
+    → MakesProgress {S = List Event} {A = Event} (λ _. Unit {0})
+    (item_count {S = List Event} {A = Event} (λ rest. rest)) old (Some e) new
 goes old new e is = grind arith
 
 pub returns-in-Some-clause-steps : goal.returns-in-Some-clause-steps
@@ -48,7 +52,8 @@ is_first : (c : After-branch-event) → IsFirstOfAll c.self.inside.due c.first_d
 is_first c = grind (arith, first_of_all)
 
 given : (c : After-branch-event) (e : Event) → c.first_due-due.result ≡ Some e
-    → GivesReturn (put_each c.self.inside.due (events_of c.self.inside.by_call)) e c.self.inside.by_call c.self.inside.due
+    → GivesReturn (put_each c.self.inside.due
+    (events_of c.self.inside.by_call)) e c.self.inside.by_call c.self.inside.due
 given c e is = gives_return _ _ _ e c.self.invariant.0 (rw is at (is_first c)) (rw is at c.in_default.ensures)
 
 -- no event is left

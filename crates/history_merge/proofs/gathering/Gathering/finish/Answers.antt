@@ -15,7 +15,8 @@ returns-in-Some-least_pending-clause-outcome c = λ initial events gathered.
     (known.distinct, known.no_fault, least.1)
 
 -- no call is pending
-whole : (c : After-into_timeline) (initial : List ℕ) (events : List Event) → HasGathered initial events c.args.self → IsCompleteFrom initial events
+whole : (c : After-into_timeline) (initial : List ℕ) (events : List Event) → HasGathered initial events c.args.self
+    → IsCompleteFrom initial events
 whole c initial events gathered = grind (arith, still_forming, complete_without_fault)
 
 -- the operations are those of the events

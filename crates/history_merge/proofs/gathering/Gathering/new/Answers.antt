@@ -1,4 +1,5 @@
-use Rattle.history_merge.proofs.Common.{ap, arith, Gathering, HasGathered, Explains, IfSome, inl, refl, subst, sym, ◌∙◌}
+use Rattle.history_merge.proofs.Common.{ap, arith, Gathering, HasGathered, Explains, IfSome, inl, refl, subst, sym}
+use Rattle.history_merge.proofs.Common.{◌∙◌}
 use Rattle.history_merge.proofs.Common.{[]}
 use Rattle.history_merge.proofs.Faults.{begun, explains}
 use Rattle.history_merge.proofs.gathering.Gathering.new.Goals as goal

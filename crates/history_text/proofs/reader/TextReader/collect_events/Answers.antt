@@ -1,10 +1,12 @@
-use Rattle.history_text.proofs.Common.{◌+◌, ◌∙◌, ◌∷◌, ◌++◌, ◌<◌, ◌≡◌, [], arith, common_steps, Event, event_format, HasEventLine, length-append}
+use Rattle.history_text.proofs.Common.{◌+◌, ◌∙◌, ◌∷◌, ◌++◌, ◌<◌, ◌≡◌, [], arith, common_steps, Event, event_format}
+use Rattle.history_text.proofs.Common.{HasEventLine, length-append}
 use Rattle.history_text.proofs.Common.{line_of, MAX_EVENTS, subst, sym, Takes}
 use Rattle.history_text.proofs.Consuming.{taken_through}
 use Rattle.history_text.proofs.FirstFaults.{carries, HaveLines-push, no_room, takes_item}
 use Rattle.history_text.proofs.PendingFaults.{stops_after}
 use Rattle.history_text.proofs.reader.TextReader.collect_events.Goals as goal
-use Rattle.history_text.proofs.reader.TextReader.collect_events.Goals.{in-None-2+in_ok-event-in-None-2+in-OneEvent, in-Some}
+use Rattle.history_text.proofs.reader.TextReader.collect_events.Goals.{in-None-2+in_ok-event-in-None-2+in-OneEvent}
+use Rattle.history_text.proofs.reader.TextReader.collect_events.Goals.{in-Some}
 
 pub returns-in_err-event-in-None-2-clause-fault : goal.returns-in_err-event-in-None-2-clause-fault
 returns-in_err-event-in-None-2-clause-fault g c =

@@ -1,4 +1,5 @@
-use Rattle.history_text.proofs.Common.{◌+◌, ◌-◌, ◌*◌, ◌≡◌, event_format, HaveLines, length, lines_of, MAX_EVENTS, Takes}
+use Rattle.history_text.proofs.Common.{◌+◌, ◌-◌, ◌*◌, ◌≡◌, event_format, HaveLines, length, lines_of, MAX_EVENTS}
+use Rattle.history_text.proofs.Common.{Takes}
 use Rattle.history_text.proofs.reader.TextReader.collect_events.Given as goal
 
 abbrev pub invariant-loop-event : goal.invariant-loop-event

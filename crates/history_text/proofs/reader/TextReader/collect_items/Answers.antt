@@ -1,8 +1,10 @@
-use Rattle.history_text.proofs.Common.{◌+◌, ◌∙◌, ◌∷◌, ◌++◌, ◌<◌, ◌≡◌, [], arith, common_steps, length, length-append, line_of, MAX_EVENTS, rules, Takes}
+use Rattle.history_text.proofs.Common.{◌+◌, ◌∙◌, ◌∷◌, ◌++◌, ◌<◌, ◌≡◌, [], arith, common_steps, length, length-append}
+use Rattle.history_text.proofs.Common.{line_of, MAX_EVENTS, rules, Takes}
 use Rattle.history_text.proofs.Consuming.{taken_through}
 use Rattle.history_text.proofs.FirstFaults.{carries, HaveLines-push, item_fault, no_room, takes_item}
 use Rattle.history_text.proofs.reader.TextReader.collect_items.Goals as goal
-use Rattle.history_text.proofs.reader.TextReader.collect_items.Goals.{in-Some, in-None-2+in_ok-item-in-None-2+in-Some-2}
+use Rattle.history_text.proofs.reader.TextReader.collect_items.Goals.{in-Some}
+use Rattle.history_text.proofs.reader.TextReader.collect_items.Goals.{in-None-2+in_ok-item-in-None-2+in-Some-2}
 
 pub loop-item-preserved-in-None : goal.loop-item-preserved-in-None
 loop-item-preserved-in-None g c =

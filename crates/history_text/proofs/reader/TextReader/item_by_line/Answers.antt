@@ -1,4 +1,5 @@
-use Rattle.history_text.proofs.Common.{◌+◌, ◌∙◌, ◌≡◌, [], ap, Cut, EndOfInput, Err, front_of, Input, item_at_front, refl}
+use Rattle.history_text.proofs.Common.{◌+◌, ◌∙◌, ◌≡◌, [], ap, Cut, EndOfInput, Err, front_of, Input, item_at_front}
+use Rattle.history_text.proofs.Common.{refl}
 use Rattle.history_text.proofs.Consuming.{before_end}
 use Rattle.history_text.proofs.FirstFaults.{items_faulty}
 use Rattle.history_text.proofs.reader.TextReader.item_by_line.Goals as goal

@@ -4,7 +4,8 @@ use Rattle.verdicts.proofs.Collected.{held_more, held_same}
 use Rattle.verdicts.proofs.selection.Selection.tickets.Goals as goal
 
 -- the operations seen, and one more
-gone_over : (seen left rest all : List Operation) (o : Operation) → left ≡ o ∷ rest → seen ++ left ≡ all → (seen ++ o ∷ []) ++ rest ≡ all
+gone_over : (seen left rest all : List Operation) (o : Operation) → left ≡ o ∷ rest → seen ++ left ≡ all
+    → (seen ++ o ∷ []) ++ rest ≡ all
 gone_over seen left rest all o first is = append_assoc seen (o ∷ []) rest ∙ ap (λ os. seen ++ os) (sym first) ∙ is
 
 pub loop-operation-preserved : goal.loop-operation-preserved
