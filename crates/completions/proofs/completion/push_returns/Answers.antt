@@ -11,10 +11,13 @@ loop-answer-preserved c =
     let r : Event = record { ticket = c.loop-answer.ticket; thread = a.call.thread; what = a.what } in
     let ticket = c.loop-answer.invariant.ticket in
     record {
-      added = c.in_ok-push.ensures.items ∙ ap (λ (e : Event). c.loop-answer.full.items ++ e ∷ []) c.new.ensures ∙ ap (λ (l : List Event). l ++ r ∷ []) c.loop-answer.invariant.added
+      added =
+          c.in_ok-push.ensures.items ∙ ap (λ (e : Event). c.loop-answer.full.items ++ e ∷ []) c.new.ensures
+          ∙ ap (λ (l : List Event). l ++ r ∷ []) c.loop-answer.invariant.added
           ∙ append_assoc c.args.full.now.items (returns_from c.args.ticket (take i c.args.answers.now)) (r ∷ [])
           ∙ ap (λ (n : ℕ). c.args.full.now.items ++ (returns_from c.args.ticket (take i c.args.answers.now)
           ++ record { ticket = n; thread = a.call.thread; what = a.what } ∷ [])) ticket
-          ∙ ap (λ (l : List Event). c.args.full.now.items ++ l) (sym (returns_more c.args.ticket c.args.answers.now i no_answer c.loop-answer-test.true));
+          ∙ ap (λ (l : List Event). c.args.full.now.items ++ l)
+          (sym (returns_more c.args.ticket c.args.answers.now i no_answer c.loop-answer-test.true));
       ticket = omega (arith, c.loop-answer.invariant.ticket);
     }

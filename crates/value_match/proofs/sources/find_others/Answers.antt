@@ -44,7 +44,12 @@ loop-place-preserved-in_default c =
 
 pub some-requires : goal.some-requires
 some-requires c =
-    omega (arith, call_within c.args.operations.now _ _ (All-contains (IsCall c.args.operations.now) _ _ c.loop-place.invariant.others.are_calls c.in-Some.ensures), c.requires.few)
+    omega (
+      arith,
+      call_within c.args.operations.now _ _
+          (All-contains (IsCall c.args.operations.now) _ _ c.loop-place.invariant.others.are_calls c.in-Some.ensures),
+      c.requires.few,
+    )
 
 pub loop-place-preserved : goal.loop-place-preserved
 loop-place-preserved c =
