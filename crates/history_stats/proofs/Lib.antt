@@ -10,4 +10,4 @@ pub mod Staying
 pub mod Taken
 pub mod Tallied
 pub mod Overtaken
-pub mod Refusals
+pub mod FailedEnqueues

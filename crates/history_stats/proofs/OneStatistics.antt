@@ -4,7 +4,7 @@ use Rattle.std.specs.Prelude.{MatchOption}
 use Rattle.history_merge.specs.Initial.{HistoryView}
 use Rattle.history_merge.specs.Operations.{operations_of}
 use Rattle.history_merge.specs.declared.operation.Operation.{Operation}
-use Rattle.history_stats.specs.Refusing.{IsRefusedAt, NoRefusal, maybe_queued_at}
+use Rattle.history_stats.specs.FailedEnqueues.{IsRefusedAt, NoFailedEnqueue, maybe_queued_at}
 use Rattle.history_stats.specs.AtOnce.{pending_at, queued_at}
 use Rattle.history_stats.specs.Statistics.{AreStatisticsOf}
 use Rattle.history_stats.specs.declared.statistics.Statistics.{Statistics}
@@ -14,16 +14,16 @@ use Rattle.history_stats.proofs.AtOnce.{one_most}
 one_least : (operations : List Operation) (f : ℕ → ℕ) (a b : ℕ) → IsRefusedAt operations f a
     → IsRefusedAt operations f b → a ≡ b
 one_least operations f a b x y =
-    let under = x.at_each y.refusal y.is_refusal in
-    let over = y.at_each x.refusal x.is_refusal in
+    let under = x.at_each y.failed y.is_failed in
+    let over = y.at_each x.failed x.is_failed in
     omega (arith, under.2, y.at_most under.0 under.1, over.2, x.at_most over.0 over.1)
 
 one_maybe : (operations : List Operation) (f : ℕ → ℕ) (a b : Option ℕ)
-    → MatchOption a (NoRefusal operations) (IsRefusedAt operations f)
-    → MatchOption b (NoRefusal operations) (IsRefusedAt operations f) → a ≡ b
+    → MatchOption a (NoFailedEnqueue operations) (IsRefusedAt operations f)
+    → MatchOption b (NoFailedEnqueue operations) (IsRefusedAt operations f) → a ≡ b
 one_maybe operations f None None x y = refl
-one_maybe operations f None (Some b) x y = absurd (x y.refusal y.is_refusal)
-one_maybe operations f (Some a) None x y = absurd (y x.refusal x.is_refusal)
+one_maybe operations f None (Some b) x y = absurd (x y.failed y.is_failed)
+one_maybe operations f (Some a) None x y = absurd (y x.failed x.is_failed)
 one_maybe operations f (Some a) (Some b) x y = ap Some (one_least operations f a b x y)
 
 pub one_statistics : (history : HistoryView) (a b : Statistics) → AreStatisticsOf history a → AreStatisticsOf history b

@@ -30,9 +30,9 @@ is_enqueued (Enqueue v) = true
 is_enqueued _ = false
 
 -- a failed enqueue
-abbrev pub is_refused : OpKind → Bool
-is_refused (EnqueueFailed v) = true
-is_refused _ = false
+abbrev pub is_failed_enqueue : OpKind → Bool
+is_failed_enqueue (EnqueueFailed v) = true
+is_failed_enqueue _ = false
 
 -- a dequeue that got a value
 abbrev pub is_dequeued : OpKind → Bool

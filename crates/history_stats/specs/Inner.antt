@@ -2,4 +2,4 @@
 pub mod AtOnce
 pub mod Tally
 pub mod Overtaking
-pub mod Refusing
+pub mod FailedEnqueues

@@ -1,7 +1,7 @@
 pub mod Counts
 pub mod AtOnce
 pub mod Overtaking
-pub mod Refusing
+pub mod FailedEnqueues
 pub mod Statistics
 pub mod Text
 pub mod Inner

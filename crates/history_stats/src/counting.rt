@@ -3,7 +3,7 @@ ghost use Rattle.std.specs.Prelude.{◌≡◌, ◌<◌, ◌≤◌, ℕ, All, cou
 ghost use Rattle.std.specs.List.{zip};
 ghost use Rattle.event_records.specs.declared.limits.TheConstants.{MAX_THREAD, MAX_THREADS};
 ghost use Rattle.history_stats.specs.Counts.{change_count, has_event, is_dequeued, is_empty};
-ghost use Rattle.history_stats.specs.Counts.{is_enqueued, is_refused, kind_count, thread_count};
+ghost use Rattle.history_stats.specs.Counts.{is_enqueued, is_failed_enqueue, kind_count, thread_count};
 
 use event_records::{Event, MAX_THREADS};
 use history_merge::{OpKind, Operations};
@@ -69,12 +69,12 @@ pub(crate) fn enqueued_count(operations: &Operations<'_>) -> usize
 }
 
 /// Counts the failed enqueues.
-pub(crate) fn refused_count(operations: &Operations<'_>) -> usize
-    ensures { result ≡ kind_count is_refused operations.now }
+pub(crate) fn failed_enqueue_count(operations: &Operations<'_>) -> usize
+    ensures { result ≡ kind_count is_failed_enqueue operations.now }
 {
     operations
         .iter()
-        .filter(|operation| is_refused(operation.kind))
+        .filter(|operation| is_failed_enqueue(operation.kind))
         .count()
 }
 
@@ -104,8 +104,8 @@ fn is_enqueued(kind: OpKind) -> bool
     matches!(kind, OpKind::Enqueue(_))
 }
 
-pub(crate) fn is_refused(kind: OpKind) -> bool
-    ensures { result ≡ is_refused kind }
+pub(crate) fn is_failed_enqueue(kind: OpKind) -> bool
+    ensures { result ≡ is_failed_enqueue kind }
 {
     matches!(kind, OpKind::EnqueueFailed(_))
 }

@@ -4,12 +4,13 @@
 
 mod at_once;
 mod counting;
+mod failed_enqueues;
 mod laws;
+mod moment;
 mod overlapping;
 mod overtaking;
 mod pending;
 mod queued;
-mod refused;
 mod statistics;
 mod stays;
 mod takings;

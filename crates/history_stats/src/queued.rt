@@ -5,10 +5,11 @@ ghost use Rattle.std.specs.Option.{option_map_or};
 ghost use Rattle.event_records.specs.declared.limits.TheConstants.{MAX_EVENTS, MAX_INITIAL};
 ghost use Rattle.history_merge.specs.declared.operation.Operation.{Operation};
 ghost use Rattle.history_merge.specs.Operations.{operations_of};
-ghost use Rattle.history_stats.specs.AtOnce.{IsMost, is_taken_before, stay_count, values_put_before};
-ghost use Rattle.history_stats.specs.Inner.AtOnce.{count_before, is_kept_before};
+ghost use Rattle.history_stats.specs.AtOnce.{IsMost, stay_count, values_put_before};
+ghost use Rattle.history_stats.specs.Inner.AtOnce.{count_before, is_kept_before, is_left_before, values_come_before};
 
 use crate::at_once::most_of;
+use crate::moment::Moment;
 use history_merge::{OpKind, Operation, Operations};
 use std::alloc::{AllocError, Global};
 use std::collections::BTreeMap;
@@ -26,25 +27,36 @@ pub(crate) fn most_queued(
     ensures { IfOk result
         (IsMost (λ gap. stay_count gap operations.now (initial.now ++ values_put_before gap operations.now))) }
 {
-    let takes = first_takes(alloc, operations)?;
+    let takes = first_dequeues(alloc, operations, Moment::Call)?;
     let mut arrivals = Vec::new(alloc);
     let mut departures = Vec::new(alloc);
     add_initial(&mut departures, initial, &takes)?;
-    add_enqueued(&mut arrivals, &mut departures, operations, &takes)?;
+    add_enqueued(
+        &mut arrivals,
+        &mut departures,
+        operations,
+        Moment::Return,
+        &takes,
+    )?;
     Ok(most_of(initial.len(), arrivals, departures))
 }
 
-/// Returns for each dequeued value the ticket at which the first dequeue of it was called.
-fn first_takes(alloc: Global, operations: &Operations<'_>) -> Result<BTreeMap<u64, u64>, AllocError>
-    ensures { IfOk result (λ takes. (gap v : ℕ) → is_kept_before gap takes v ≡ is_taken_before gap operations.now v) }
+/// Returns for each dequeued value the least ticket of this moment of its dequeues.
+pub(crate) fn first_dequeues(
+    alloc: Global,
+    operations: &Operations<'_>,
+    moment: Moment,
+) -> Result<BTreeMap<u64, u64>, AllocError>
+    ensures { IfOk result
+        (λ first. (gap v : ℕ) → is_kept_before gap first v ≡ is_left_before moment gap operations.now v) }
 {
-    let mut takes = BTreeMap::new(alloc);
+    let mut first = BTreeMap::new(alloc);
     for operation in operations.iter() {
         if let OpKind::Dequeue(value) = operation.kind {
-            keep_least(&mut takes, value, operation.call)?;
+            keep_least(&mut first, value, moment.ticket(operation))?;
         }
     }
-    Ok(takes)
+    Ok(first)
 }
 
 /// Keeps the ticket for the value, unless a lower one is kept.
@@ -98,34 +110,36 @@ fn add_go(departures: &mut Vec<u64>, take: Option<u64>) -> Result<(), AllocError
     Ok(())
 }
 
-/// Adds the tickets at which the values of enqueues come and leave.
-fn add_enqueued(
+/// Adds the tickets at which the values of enqueues come, those of this moment, and at which they leave.
+pub(crate) fn add_enqueued(
     arrivals: &mut Vec<u64>,
     departures: &mut Vec<u64>,
     operations: &Operations<'_>,
+    moment: Moment,
     takes: &BTreeMap<u64, u64>,
 ) -> Result<(), AllocError>
-    ensures stays { OnOk result
-        ((gap : ℕ) → count_by (λ v. not (is_kept_before gap takes.now v)) (values_put_before gap operations.now)
+    ensures stays { OnOk result ((gap : ℕ)
+        → count_by (λ v. not (is_kept_before gap takes.now v)) (values_come_before moment gap operations.now)
         + count_before gap departures.new.items + count_before gap arrivals.old.items
         ≡ count_before gap arrivals.new.items + count_before gap departures.old.items) }
     ensures few { OnOk result (vec_len arrivals.new ≤ vec_len arrivals.old + length operations.now) }
 {
     for operation in operations.iter() {
-        add_one(arrivals, departures, operation, takes)?;
+        add_one(arrivals, departures, operation, moment, takes)?;
     }
     Ok(())
 }
 
-/// Adds the tickets at which the value of one operation comes and leaves, if it is an enqueue.
+/// Adds the ticket at which the value of one operation comes, and that at which it leaves, if it is an enqueue.
 fn add_one(
     arrivals: &mut Vec<u64>,
     departures: &mut Vec<u64>,
     operation: Operation,
+    moment: Moment,
     takes: &BTreeMap<u64, u64>,
 ) -> Result<(), AllocError>
-    ensures stays { OnOk result
-        ((gap : ℕ) → count_by (λ v. not (is_kept_before gap takes.now v)) (values_put_before gap (operation ∷ []))
+    ensures stays { OnOk result ((gap : ℕ)
+        → count_by (λ v. not (is_kept_before gap takes.now v)) (values_come_before moment gap (operation ∷ []))
         + count_before gap departures.new.items + count_before gap arrivals.old.items
         ≡ count_before gap arrivals.new.items + count_before gap departures.old.items) }
     ensures few { OnOk result (vec_len arrivals.new ≤ vec_len arrivals.old + 1) }
@@ -134,7 +148,7 @@ fn add_one(
         OpKind::Enqueue(value) => add_stay(
             arrivals,
             departures,
-            operation.ret,
+            moment.ticket(operation),
             ticket_for(takes, value),
         ),
         _ => Ok(()),
@@ -143,7 +157,7 @@ fn add_one(
 
 /// Adds the ticket at which a value comes, and that at which it leaves if it is dequeued. It doesn't leave before it
 /// comes.
-pub(crate) fn add_stay(
+fn add_stay(
     arrivals: &mut Vec<u64>,
     departures: &mut Vec<u64>,
     put: u64,

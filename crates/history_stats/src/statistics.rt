@@ -3,13 +3,13 @@ ghost use Rattle.history_merge.specs.Complete.{IsCompleteHistory};
 ghost use Rattle.history_stats.specs.Statistics.{AreStatisticsOf};
 
 use crate::counting::{
-    change_count, dequeued_count, empty_count, enqueued_count, refused_count, thread_count,
+    change_count, dequeued_count, empty_count, enqueued_count, failed_enqueue_count, thread_count,
 };
+use crate::failed_enqueues::refused_at;
 use crate::overlapping::{overlapping_count, tenths_of_percent};
 use crate::overtaking::{greatest_count, overtakings_of};
 use crate::pending::most_pending;
 use crate::queued::most_queued;
-use crate::refused::refused_at;
 use event_records::Event;
 use history_merge::History;
 use std::alloc::{AllocError, Global};
@@ -25,7 +25,7 @@ pub struct Statistics {
     pub threads: usize,
     /// The number of successful enqueues.
     pub enqueued: usize,
-    /// The number of failed enqueues.
+    /// The number of failed enqueues, printed as `refused`.
     pub refused: usize,
     /// The number of dequeues that got a value.
     pub dequeued: usize,
@@ -81,7 +81,7 @@ pub fn statistics_of(alloc: Global, history: &History) -> Result<Statistics, All
         operations: operations.len(),
         threads: thread_count(events.as_slice()),
         enqueued: enqueued_count(&operations),
-        refused: refused_count(&operations),
+        refused: failed_enqueue_count(&operations),
         dequeued: dequeued_count(&operations),
         empty: empty_count(&operations),
         initial: initial.len(),

@@ -5,8 +5,8 @@ use Rattle.history_merge.proofs.Distinct.{calls_rise}
 use Rattle.history_merge.specs.declared.operation.Operation.{Operation}
 use Rattle.history_stats.specs.AtOnce.{IsMost, stay_count, values_put_before}
 use Rattle.history_stats.specs.Overtaking.{greatest}
-use Rattle.history_stats.specs.Refusing.{IsRefusedAt, NoRefusal, left_count, values_called_before}
-use Rattle.history_stats.specs.Counts.{change_count, is_dequeued, is_empty, is_enqueued, is_refused, kind_count}
+use Rattle.history_stats.specs.FailedEnqueues.{IsRefusedAt, NoFailedEnqueue, left_count, values_called_before}
+use Rattle.history_stats.specs.Counts.{change_count, is_dequeued, is_empty, is_enqueued, is_failed_enqueue, kind_count}
 use Rattle.history_stats.specs.Counts.{overlapping_count, tenths_of_percent, thread_count}
 use Rattle.history_stats.proofs.statistics.statistics_of.Goals as goal
 
@@ -31,7 +31,7 @@ returns c =
     let operations = c.operations-operations.ensures.operations in
     let initial = c.initial-initial.ensures.initial in
     let overlapping = c.overlapping_count-overlapping.ensures.exact ∙ ap overlapping_count operations in
-    let refused = subst (λ (os : List Operation). MatchOption c.in_ok-refused_at.refused_at (NoRefusal os)
+    let refused = subst (λ (os : List Operation). MatchOption c.in_ok-refused_at.refused_at (NoFailedEnqueue os)
     (IsRefusedAt os (λ gap. left_count gap os (c.initial-initial.result.now ++ values_called_before gap os)))) operations c.in_ok-refused_at.ensures in
     let queued = subst (λ (os : List Operation). IsMost (λ gap. stay_count gap os (c.initial-initial.result.now ++ values_put_before gap os))
     c.in_ok-most_queued.most_queued) operations c.in_ok-most_queued.ensures in
@@ -40,7 +40,7 @@ returns c =
       operations = c.len-2.ensures.exact ∙ ap length operations;
       threads = c.thread_count.ensures ∙ ap thread_count (c.as_slice.ensures.value ∙ c.in_ok-events.ensures.listed);
       enqueued = c.enqueued_count.ensures ∙ ap (kind_count is_enqueued) operations;
-      refused = c.refused_count.ensures ∙ ap (kind_count is_refused) operations;
+      refused = c.failed_enqueue_count.ensures ∙ ap (kind_count is_failed_enqueue) operations;
       dequeued = c.dequeued_count.ensures ∙ ap (kind_count is_dequeued) operations;
       empty = c.empty_count.ensures ∙ ap (kind_count is_empty) operations;
       initial = ap length initial;

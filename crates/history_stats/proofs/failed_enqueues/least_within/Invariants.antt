@@ -1,7 +1,7 @@
 use Rattle.std.proofs.Common.{◌≡◌, ◌+◌, ◌-◌, ◌<◌, ◌≤◌, false, length, true}
 use Rattle.std.specs.List.{list_any}
-use Rattle.history_stats.specs.Inner.Refusing.{stays_within}
-use Rattle.history_stats.proofs.refused.least_within.Given as goal
+use Rattle.history_stats.specs.Inner.FailedEnqueues.{stays_within}
+use Rattle.history_stats.proofs.failed_enqueues.least_within.Given as goal
 
 abbrev pub invariant-loop-least : goal.invariant-loop-least
 invariant-loop-least l = record {

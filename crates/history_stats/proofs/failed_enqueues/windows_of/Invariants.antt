@@ -1,6 +1,6 @@
 use Rattle.std.proofs.Common.{◌≡◌, ◌++◌}
-use Rattle.history_stats.specs.Inner.Refusing.{windows_of}
-use Rattle.history_stats.proofs.refused.windows_of.Given as goal
+use Rattle.history_stats.specs.Inner.FailedEnqueues.{windows_of}
+use Rattle.history_stats.proofs.failed_enqueues.windows_of.Given as goal
 
 abbrev pub invariant-loop-operation : goal.invariant-loop-operation
 invariant-loop-operation l =

@@ -1,8 +1,8 @@
 use Rattle.std.proofs.Common.{◌||◌, ◌∙◌, sym}
 use Rattle.std.proofs.lemmas.List.Folds.{list_any_at, list_any_more}
-use Rattle.history_stats.specs.Inner.Refusing.{stays_within}
-use Rattle.history_stats.specs.declared.refused.Window.{Window}
-use Rattle.history_stats.proofs.refused.one_stays_within.Goals as goal
+use Rattle.history_stats.specs.Inner.FailedEnqueues.{stays_within}
+use Rattle.history_stats.specs.declared.failed_enqueues.Window.{Window}
+use Rattle.history_stats.proofs.failed_enqueues.one_stays_within.Goals as goal
 
 pub returns-then-stays_within-clause-some : goal.returns-then-stays_within-clause-some
 returns-then-stays_within-clause-some c =

@@ -1,6 +1,6 @@
 use Rattle.std.proofs.Common.{◌≡◌, ℕ, ◌+◌, ◌-◌, ◌<◌, get_or, length}
 use Rattle.history_stats.specs.Inner.AtOnce.{count_before}
-use Rattle.history_stats.proofs.refused.heights_of.Given as goal
+use Rattle.history_stats.proofs.failed_enqueues.heights_of.Given as goal
 
 abbrev pub invariant-loop-place : goal.invariant-loop-place
 invariant-loop-place l = record {

@@ -14,12 +14,12 @@ use Rattle.std.proofs.lemmas.List.Sums.{sum_by-append, sum_by-cons, sum_by_more}
 use Rattle.std.proofs.Math.ListN.{set}
 use Rattle.std.proofs.lemmas.List.{get_or-set_other, get_or-set_same}
 use Rattle.history_merge.specs.declared.operation.Operation.{Operation}
-use Rattle.history_stats.specs.Counts.{is_refused}
-use Rattle.history_stats.specs.Refusing.{IsDuring, IsRefusal, IsRefusedAt, NoRefusal, is_gone_before, left_count}
-use Rattle.history_stats.specs.Refusing.{values_called_before}
+use Rattle.history_stats.specs.Counts.{is_failed_enqueue}
+use Rattle.history_stats.specs.FailedEnqueues.{IsDuring, IsFailedEnqueue, IsRefusedAt, NoFailedEnqueue, is_gone_before, left_count}
+use Rattle.history_stats.specs.FailedEnqueues.{values_called_before}
 use Rattle.history_stats.specs.Inner.AtOnce.{count_before}
-use Rattle.history_stats.specs.Inner.Refusing.{AreHeights, count_above, stays_within, there_at, window_of, windows_of}
-use Rattle.history_stats.specs.declared.refused.Window.{Window}
+use Rattle.history_stats.specs.Inner.FailedEnqueues.{AreHeights, count_above, stays_within, there_at, window_of, windows_of}
+use Rattle.history_stats.specs.declared.failed_enqueues.Window.{Window}
 use Rattle.history_stats.proofs.AtOnce.{at_least, below_at, count_few, count_rises}
 
 -- ---- heights above a number
@@ -189,54 +189,54 @@ counts_more most place n heights above new within room is pushed so_far k le = e
 
 module _ (first : ℕ) (arrivals departures : List ℕ) where
   abbrev found_of : Operation → Option Window
-  found_of o = cond (is_refused o.kind) (Some (window_of first arrivals departures o)) None
+  found_of o = cond (is_failed_enqueue o.kind) (Some (window_of first arrivals departures o)) None
 
   -- if some window passes a test, it is that of a failed enqueue
-  some_refusal : (p : Window → Bool) (operations : List Operation)
+  some_failed : (p : Window → Bool) (operations : List Operation)
       → list_any p (windows_of first arrivals departures operations) ≡ true
-      → (o : Operation) × IsRefusal operations o × (p (window_of first arrivals departures o) ≡ true)
-  some_refusal p [] is = absurd (cc)
-  some_refusal p (o ∷ rest) is = here (is_refused o.kind) refl is (some_refusal p rest)
+      → (o : Operation) × IsFailedEnqueue operations o × (p (window_of first arrivals departures o) ≡ true)
+  some_failed p [] is = absurd (cc)
+  some_failed p (o ∷ rest) is = here (is_failed_enqueue o.kind) refl is (some_failed p rest)
     where
-      later : (x : (z : Operation) × IsRefusal rest z × (p (window_of first arrivals departures z) ≡ true))
-          → (z : Operation) × IsRefusal (o ∷ rest) z × (p (window_of first arrivals departures z) ≡ true)
+      later : (x : (z : Operation) × IsFailedEnqueue rest z × (p (window_of first arrivals departures z) ≡ true))
+          → (z : Operation) × IsFailedEnqueue (o ∷ rest) z × (p (window_of first arrivals departures z) ≡ true)
       later x = (x.0, ((suc x.1.0.0, omega (arith, x.1.0.1), x.1.0.2), x.1.1), x.2)
 
-      here : (b : Bool) → is_refused o.kind ≡ b
+      here : (b : Bool) → is_failed_enqueue o.kind ≡ b
           → list_any p (cons_option (cond b (Some (window_of first arrivals departures o)) None)
           (windows_of first arrivals departures rest)) ≡ true
-          → (list_any p (windows_of first arrivals departures rest) ≡ true → (z : Operation) × IsRefusal rest z × (p (window_of first arrivals departures z) ≡ true))
-          → (z : Operation) × IsRefusal (o ∷ rest) z × (p (window_of first arrivals departures z) ≡ true)
+          → (list_any p (windows_of first arrivals departures rest) ≡ true → (z : Operation) × IsFailedEnqueue rest z × (p (window_of first arrivals departures z) ≡ true))
+          → (z : Operation) × IsFailedEnqueue (o ∷ rest) z × (p (window_of first arrivals departures z) ≡ true)
       here false not_so any more = later (more any)
       here true so any more = passes (p (window_of first arrivals departures o)) refl any
         where
           passes : (b : Bool) → p (window_of first arrivals departures o) ≡ b
               → (b || list_any p (windows_of first arrivals departures rest)) ≡ true
-              → (z : Operation) × IsRefusal (o ∷ rest) z × (p (window_of first arrivals departures z) ≡ true)
+              → (z : Operation) × IsFailedEnqueue (o ∷ rest) z × (p (window_of first arrivals departures z) ≡ true)
           passes true it any = (o, ((0, omega arith, refl), so), it)
           passes false it any = later (more any)
 
   -- if no window passes a test, that of no failed enqueue does
-  no_refusal : (p : Window → Bool) (operations : List Operation)
+  no_failed : (p : Window → Bool) (operations : List Operation)
       → list_any p (windows_of first arrivals departures operations) ≡ false
-      → (o : Operation) → IsRefusal operations o → p (window_of first arrivals departures o) ≡ false
-  no_refusal p [] is o refusal = absurd (omega (arith, refusal.0.1))
-  no_refusal p (x ∷ rest) is o refusal = here (is_refused x.kind) refl is refusal.0 (no_refusal p rest)
+      → (o : Operation) → IsFailedEnqueue operations o → p (window_of first arrivals departures o) ≡ false
+  no_failed p [] is o failed = absurd (omega (arith, failed.0.1))
+  no_failed p (x ∷ rest) is o failed = here (is_failed_enqueue x.kind) refl is failed.0 (no_failed p rest)
     where
       at : (k : ℕ) → k < length (x ∷ rest) → get_or (x ∷ rest) k o ≡ o
           → ((x ≡ o) ⊎ Contains rest o)
       at zero within is = inl is
       at (suc k) within is = inr (k, omega arith, is)
 
-      here : (b : Bool) → is_refused x.kind ≡ b
+      here : (b : Bool) → is_failed_enqueue x.kind ≡ b
           → list_any p (cons_option (cond b (Some (window_of first arrivals departures x)) None)
           (windows_of first arrivals departures rest)) ≡ false
           → Contains (x ∷ rest) o
-          → (list_any p (windows_of first arrivals departures rest) ≡ false → (z : Operation) → IsRefusal rest z → p (window_of first arrivals departures z) ≡ false)
+          → (list_any p (windows_of first arrivals departures rest) ≡ false → (z : Operation) → IsFailedEnqueue rest z → p (window_of first arrivals departures z) ≡ false)
           → p (window_of first arrivals departures o) ≡ false
       here b so none among more = elim (at among.0 among.1 among.2) [
-        | inl same ↦ it b (sym so ∙ ap (λ (z : Operation). is_refused z.kind) same ∙ refusal.1) none same
-        | inr later ↦ more (rest_none b none) o (later, refusal.1)
+        | inl same ↦ it b (sym so ∙ ap (λ (z : Operation). is_failed_enqueue z.kind) same ∙ failed.1) none same
+        | inr later ↦ more (rest_none b none) o (later, failed.1)
       ]
         where
           neither : (a c : Bool) → (a || c) ≡ false → (a ≡ false) × (c ≡ false)
@@ -259,63 +259,63 @@ module _ (first : ℕ) (arrivals departures : List ℕ) where
           it false so none same = absurd (cc)
 
 -- without windows no enqueue failed
-pub none_refused : (first : ℕ) (arrivals departures : List ℕ) (operations : List Operation) (windows : List Window)
-    → windows ≡ windows_of first arrivals departures operations → length windows ≡ 0 → NoRefusal operations
-none_refused first arrivals departures operations windows is none o refusal =
-    absurd (false≢true (sym (no_refusal first arrivals departures (λ _. true) operations (ap (list_any (λ _. true)) (sym is) ∙ empty windows none) o refusal)))
+pub none_failed : (first : ℕ) (arrivals departures : List ℕ) (operations : List Operation) (windows : List Window)
+    → windows ≡ windows_of first arrivals departures operations → length windows ≡ 0 → NoFailedEnqueue operations
+none_failed first arrivals departures operations windows is none o failed =
+    absurd (false≢true (sym (no_failed first arrivals departures (λ _. true) operations (ap (list_any (λ _. true)) (sym is) ∙ empty windows none) o failed)))
   where
     empty : (ws : List Window) → length ws ≡ 0 → list_any (λ _. true) ws ≡ false
     empty [] none = refl
     empty (w ∷ ws) none = absurd (omega arith)
 
 -- the least number that a window never exceeds is the minimum of the maximum during a failed enqueue
-pub refused_is : (first least : ℕ) (arrivals departures heights : List ℕ) (operations : List Operation)
+pub refused_at_is : (first least : ℕ) (arrivals departures heights : List ℕ) (operations : List Operation)
     (windows : List Window) → IsNonDecreasing arrivals
     → AreHeights first arrivals departures heights → All (λ o. o.call < o.ret) operations → windows ≡ windows_of first arrivals departures operations
     → list_any (stays_within heights least) windows ≡ true → (0 < least → list_any (stays_within heights (least - 1)) windows ≡ false)
     → IsRefusedAt operations (there_at first arrivals departures) least
-refused_is first least arrivals departures heights operations windows up are forward is within lower = record {
-  refusal = one.0;
-  is_refusal = one.1;
+refused_at_is first least arrivals departures heights operations windows up are forward is within lower = record {
+  failed = one.0;
+  is_failed = one.1;
   at_most = stays_so first arrivals departures heights up are one.0 least one.2;
-  at_each = λ o refusal. each o refusal (cases_lt 0 least);
+  at_each = λ o failed. each o failed (cases_lt 0 least);
 }
   where
-    one : (o : Operation) × IsRefusal operations o
+    one : (o : Operation) × IsFailedEnqueue operations o
         × (stays_within heights least (window_of first arrivals departures o) ≡ true)
-    one = some_refusal first arrivals departures (stays_within heights least) operations (ap (list_any (stays_within heights least)) (sym is) ∙ within)
+    one = some_failed first arrivals departures (stays_within heights least) operations (ap (list_any (stays_within heights least)) (sym is) ∙ within)
 
     goes : (o : Operation) → Contains operations o → o.call < o.ret
     goes o among = let at = forward among.0 o among.1 in
         let same : get_or operations among.0 o ≡ o = among.2 in
         omega (arith, at, ap (λ (z : Operation). z.call) same, ap (λ (z : Operation). z.ret) same)
 
-    each : (o : Operation) → IsRefusal operations o → (0 < least) ⊎ (least ≤ 0)
+    each : (o : Operation) → IsFailedEnqueue operations o → (0 < least) ⊎ (least ≤ 0)
         → (gap : ℕ) × IsDuring o gap × (least ≤ there_at first arrivals departures gap)
-    each o refusal (inr none) = let less = goes o refusal.0 in (o.call + 1, (omega arith, omega arith), omega arith)
-    each o refusal (inl some) =
-        let passed = no_refusal first arrivals departures (stays_within heights (least - 1)) operations
-        (ap (list_any (stays_within heights (least - 1))) (sym is) ∙ lower some) o refusal in
-        let more = exceeds_so first arrivals departures heights up are o (least - 1) (goes o refusal.0) passed in
+    each o failed (inr none) = let less = goes o failed.0 in (o.call + 1, (omega arith, omega arith), omega arith)
+    each o failed (inl some) =
+        let passed = no_failed first arrivals departures (stays_within heights (least - 1)) operations
+        (ap (list_any (stays_within heights (least - 1))) (sym is) ∙ lower some) o failed in
+        let more = exceeds_so first arrivals departures heights up are o (least - 1) (goes o failed.0) passed in
         (more.0, more.1, omega (arith, more.2))
 
 -- equal numbers have the same minimum
-pub refused_alike : (operations : List Operation) (f g : ℕ → ℕ) (least : ℕ) → ((gap : ℕ) → f gap ≡ g gap)
+pub refused_at_alike : (operations : List Operation) (f g : ℕ → ℕ) (least : ℕ) → ((gap : ℕ) → f gap ≡ g gap)
     → IsRefusedAt operations f least
     → IsRefusedAt operations g least
-refused_alike operations f g least same is = record {
-  refusal = is.refusal;
-  is_refusal = is.is_refusal;
+refused_at_alike operations f g least same is = record {
+  failed = is.failed;
+  is_failed = is.is_failed;
   at_most = λ gap during. let e = same gap in let le = is.at_most gap during in omega arith;
-  at_each = λ o refusal. let one = is.at_each o refusal in (one.0, one.1, omega (arith, one.2, same one.0));
+  at_each = λ o failed. let one = is.at_each o failed in (one.0, one.1, omega (arith, one.2, same one.0));
 }
 
 -- permuted tickets have the same minimum
-pub refused_permuted : (first least : ℕ) (arrivals arrivals' departures departures' : List ℕ)
+pub refused_at_permuted : (first least : ℕ) (arrivals arrivals' departures departures' : List ℕ)
     (operations : List Operation) → IsPermutation arrivals arrivals'
     → IsPermutation departures departures' → IsRefusedAt operations (there_at first arrivals' departures') least
     → IsRefusedAt operations (there_at first arrivals departures) least
-refused_permuted first least arrivals arrivals' departures departures' operations came went is = refused_alike operations
+refused_at_permuted first least arrivals arrivals' departures departures' operations came went is = refused_at_alike operations
     (there_at first arrivals' departures') (there_at first arrivals departures) least
     (λ gap i. first + sum_by-IsPermutation (λ t. cond (nat_lt t gap) 1 0) arrivals arrivals' came i
     - sum_by-IsPermutation (λ t. cond (nat_lt t gap) 1 0) departures departures' went i) is
@@ -334,7 +334,7 @@ each_window : (P : Window → Type 0) (first : ℕ) (arrivals departures : List 
     → ((o : Operation) → P (window_of first arrivals departures o))
     → (operations : List Operation) → All P (windows_of first arrivals departures operations)
 each_window P first arrivals departures holds [] = λ k d below. absurd (omega arith)
-each_window P first arrivals departures holds (o ∷ rest) = here (is_refused o.kind) (each_window P first arrivals departures holds rest)
+each_window P first arrivals departures holds (o ∷ rest) = here (is_failed_enqueue o.kind) (each_window P first arrivals departures holds rest)
   where
     here : (b : Bool) → All P (windows_of first arrivals departures rest)
         → All P (cons_option (cond b (Some (window_of first arrivals departures o)) None)
@@ -385,18 +385,18 @@ stays_at_last first last arrivals departures heights operations windows is are g
 pub permuted_maybe : (first : ℕ) (least : Option ℕ) (arrivals arrivals' departures departures' : List ℕ)
     (operations : List Operation)
     → IsPermutation arrivals arrivals' → IsPermutation departures departures'
-    → MatchOption least (NoRefusal operations) (IsRefusedAt operations (there_at first arrivals' departures'))
-    → MatchOption least (NoRefusal operations) (IsRefusedAt operations (there_at first arrivals departures))
+    → MatchOption least (NoFailedEnqueue operations) (IsRefusedAt operations (there_at first arrivals' departures'))
+    → MatchOption least (NoFailedEnqueue operations) (IsRefusedAt operations (there_at first arrivals departures))
 permuted_maybe first None arrivals arrivals' departures departures' operations came went is = is
 permuted_maybe first (Some least) arrivals arrivals' departures departures' operations came went is =
-    refused_permuted first least arrivals arrivals' departures departures' operations came went is
+    refused_at_permuted first least arrivals arrivals' departures departures' operations came went is
 
 -- the number present by arrivals and departures is the number that may be in the queue
-pub refused_maybe : (least : Option ℕ) (operations : List Operation) (f g : ℕ → ℕ) → ((gap : ℕ) → f gap ≡ g gap)
-    → MatchOption least (NoRefusal operations) (IsRefusedAt operations f)
-    → MatchOption least (NoRefusal operations) (IsRefusedAt operations g)
-refused_maybe None operations f g same is = is
-refused_maybe (Some least) operations f g same is = refused_alike operations f g least same is
+pub refused_at_maybe : (least : Option ℕ) (operations : List Operation) (f g : ℕ → ℕ) → ((gap : ℕ) → f gap ≡ g gap)
+    → MatchOption least (NoFailedEnqueue operations) (IsRefusedAt operations f)
+    → MatchOption least (NoFailedEnqueue operations) (IsRefusedAt operations g)
+refused_at_maybe None operations f g same is = is
+refused_at_maybe (Some least) operations f g same is = refused_at_alike operations f g least same is
 
 pub left_is_there : (initial : List ℕ) (operations : List Operation)
     (goes_before : ℕ → ℕ → Bool) (arrivals first_goes departures : List ℕ)

@@ -1,8 +1,8 @@
 use Rattle.std.proofs.Common.{◌≡◌, ◌∙◌, ◌+◌, Bool, true, false, cond, ap, arith, get_or, refl}
 use Rattle.std.proofs.Math.ListN.{length-set}
 use mir.Val.{bool_byte}
-use Rattle.history_stats.proofs.Refusals.{counts_more}
-use Rattle.history_stats.proofs.refused.count_above.Goals as goal
+use Rattle.history_stats.proofs.FailedEnqueues.{counts_more}
+use Rattle.history_stats.proofs.failed_enqueues.count_above.Goals as goal
 
 -- a test counts as one
 one : (b : Bool) → bool_byte b ≡ cond b 1 0

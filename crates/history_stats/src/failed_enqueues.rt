@@ -1,23 +1,23 @@
 //! The number of values that the queue may have held during failed enqueues.
-ghost use Rattle.std.specs.Prelude.{◌≡◌, ◌+◌, ◌-◌, ◌<◌, ◌≤◌, ◌++◌, ◌∷◌, ◌^◌, [], ℕ, All, IfOk};
-ghost use Rattle.std.specs.Prelude.{List, MatchOption, OnOk, count_by, false, filter_map};
-ghost use Rattle.std.specs.Prelude.{length, nat_lt, not, slice_index_or, take, true, vec_len};
+ghost use Rattle.std.specs.Prelude.{◌≡◌, ◌+◌, ◌-◌, ◌<◌, ◌≤◌, ◌++◌, ◌^◌, ℕ, All, IfOk};
+ghost use Rattle.std.specs.Prelude.{List, MatchOption, count_by, false, filter_map};
+ghost use Rattle.std.specs.Prelude.{length, nat_lt, slice_index_or, take, true, vec_len};
 ghost use Rattle.std.specs.List.{list_any};
 ghost use Rattle.std.specs.List.Sorted.{IsNonDecreasing};
 ghost use Rattle.event_records.specs.declared.limits.TheConstants.{MAX_EVENTS, MAX_INITIAL};
-ghost use Rattle.history_stats.specs.Refusing.{IsRefusedAt, NoRefusal, is_gone_before};
-ghost use Rattle.history_stats.specs.Refusing.{left_count, values_called_before};
-ghost use Rattle.history_stats.specs.Inner.AtOnce.{count_before, is_kept_before};
-ghost use Rattle.history_stats.specs.Inner.Refusing.{AreHeights, count_above, stays_within};
-ghost use Rattle.history_stats.specs.Inner.Refusing.{there_at, window_of, windows_of};
+ghost use Rattle.history_stats.specs.FailedEnqueues.{IsRefusedAt, NoFailedEnqueue};
+ghost use Rattle.history_stats.specs.FailedEnqueues.{left_count, values_called_before};
+ghost use Rattle.history_stats.specs.Inner.AtOnce.{count_before};
+ghost use Rattle.history_stats.specs.Inner.FailedEnqueues.{AreHeights, count_above, stays_within};
+ghost use Rattle.history_stats.specs.Inner.FailedEnqueues.{there_at, window_of, windows_of};
 
 use crate::at_once::{count_before, count_by};
-use crate::counting::is_refused;
-use crate::queued::{add_initial, add_stay, keep_least, ticket_for};
+use crate::counting::is_failed_enqueue;
+use crate::moment::Moment;
+use crate::queued::{add_enqueued, add_initial, first_dequeues};
 use crate::tally::zeros;
-use history_merge::{OpKind, Operation, Operations};
+use history_merge::{Operation, Operations};
 use std::alloc::{AllocError, Global};
-use std::collections::BTreeMap;
 
 /// The number of values that may be in the queue just after the call of a failed enqueue, and the places of the
 /// arrivals during it.
@@ -28,8 +28,8 @@ pub(crate) struct Window {
     to: usize,
 }
 
-/// Returns the minimum, over the failed enqueues, of the maximum number of values that may have been in the queue at
-/// one gap of the call.
+/// Returns the number that is printed as `refused-at`: the minimum, over the failed enqueues, of the maximum number of
+/// values that may have been in the queue at one gap of the call.
 ///
 /// Takes O(n log n) time for n operations and initial values, and memory in proportion to them.
 pub(crate) fn refused_at(
@@ -40,78 +40,27 @@ pub(crate) fn refused_at(
     requires forward { All (λ o. o.call < o.ret) operations.now }
     requires few_initial { length initial.now ≤ MAX_INITIAL }
     requires few { length operations.now ≤ MAX_EVENTS }
-    ensures { IfOk result (λ least. MatchOption least (NoRefusal operations.now)
+    ensures { IfOk result (λ least. MatchOption least (NoFailedEnqueue operations.now)
         (IsRefusedAt operations.now
         (λ gap. left_count gap operations.now (initial.now ++ values_called_before gap operations.now)))) }
 {
-    let gone = first_gone(alloc, operations)?;
+    let gone = first_dequeues(alloc, operations, Moment::Return)?;
     let mut arrivals = Vec::new(alloc);
     let mut departures = Vec::new(alloc);
     add_initial(&mut departures, initial, &gone)?;
-    add_called(&mut arrivals, &mut departures, operations, &gone)?;
-    refused_among(alloc, initial.len(), arrivals, departures, operations)
-}
-
-/// Returns for each dequeued value the ticket at which the first dequeue of it returned.
-fn first_gone(alloc: Global, operations: &Operations<'_>) -> Result<BTreeMap<u64, u64>, AllocError>
-    ensures { IfOk result (λ gone. (gap v : ℕ) → is_kept_before gap gone v ≡ is_gone_before gap operations.now v) }
-{
-    let mut gone = BTreeMap::new(alloc);
-    for operation in operations.iter() {
-        if let OpKind::Dequeue(value) = operation.kind {
-            keep_least(&mut gone, value, operation.ret)?;
-        }
-    }
-    Ok(gone)
-}
-
-/// Adds the tickets from which the values of enqueues may be in the queue, and those by which they are gone.
-fn add_called(
-    arrivals: &mut Vec<u64>,
-    departures: &mut Vec<u64>,
-    operations: &Operations<'_>,
-    gone: &BTreeMap<u64, u64>,
-) -> Result<(), AllocError>
-    ensures stays { OnOk result
-        ((gap : ℕ) → count_by (λ v. not (is_kept_before gap gone.now v)) (values_called_before gap operations.now)
-        + count_before gap departures.new.items + count_before gap arrivals.old.items
-        ≡ count_before gap arrivals.new.items + count_before gap departures.old.items) }
-    ensures few { OnOk result (vec_len arrivals.new ≤ vec_len arrivals.old + length operations.now) }
-{
-    for operation in operations.iter() {
-        add_one(arrivals, departures, operation, gone)?;
-    }
-    Ok(())
-}
-
-/// Adds the ticket from which the value of one operation may be in the queue, and that by which it is gone, if it is
-/// an enqueue.
-fn add_one(
-    arrivals: &mut Vec<u64>,
-    departures: &mut Vec<u64>,
-    operation: Operation,
-    gone: &BTreeMap<u64, u64>,
-) -> Result<(), AllocError>
-    ensures stays { OnOk result
-        ((gap : ℕ) → count_by (λ v. not (is_kept_before gap gone.now v)) (values_called_before gap (operation ∷ []))
-        + count_before gap departures.new.items + count_before gap arrivals.old.items
-        ≡ count_before gap arrivals.new.items + count_before gap departures.old.items) }
-    ensures few { OnOk result (vec_len arrivals.new ≤ vec_len arrivals.old + 1) }
-{
-    match operation.kind {
-        OpKind::Enqueue(value) => add_stay(
-            arrivals,
-            departures,
-            operation.call,
-            ticket_for(gone, value),
-        ),
-        _ => Ok(()),
-    }
+    add_enqueued(
+        &mut arrivals,
+        &mut departures,
+        operations,
+        Moment::Call,
+        &gone,
+    )?;
+    refused_at_among(alloc, initial.len(), arrivals, departures, operations)
 }
 
 /// Returns the minimum, over the failed enqueues, of the maximum number present at one gap of the call: `first` are
 /// present from the beginning, one comes at each ticket of `arrivals`, and one leaves at each of `departures`.
-fn refused_among(
+fn refused_at_among(
     alloc: Global,
     first: usize,
     mut arrivals: Vec<u64>,
@@ -120,16 +69,16 @@ fn refused_among(
 ) -> Result<Option<usize>, AllocError>
     requires forward { All (λ o. o.call < o.ret) operations.now }
     requires few { first + vec_len arrivals < 2 ^ 62 }
-    ensures { IfOk result (λ least. MatchOption least (NoRefusal operations.now)
+    ensures { IfOk result (λ least. MatchOption least (NoFailedEnqueue operations.now)
         (IsRefusedAt operations.now (there_at first arrivals.items departures.items))) }
 {
     arrivals.sort_unstable();
     departures.sort_unstable();
-    refused_in_order(alloc, first, &arrivals, &departures, operations)
+    refused_at_in_order(alloc, first, &arrivals, &departures, operations)
 }
 
-/// Returns the same minimum for sorted tickets.
-fn refused_in_order(
+/// Returns this minimum for sorted tickets.
+fn refused_at_in_order(
     alloc: Global,
     first: usize,
     arrivals: &[u64],
@@ -140,7 +89,7 @@ fn refused_in_order(
     requires arrivals { IsNonDecreasing arrivals.now }
     requires departures { IsNonDecreasing departures.now }
     requires few { first + length arrivals.now < 2 ^ 62 }
-    ensures { IfOk result (λ least. MatchOption least (NoRefusal operations.now)
+    ensures { IfOk result (λ least. MatchOption least (NoFailedEnqueue operations.now)
         (IsRefusedAt operations.now (there_at first arrivals.now departures.now))) }
 {
     let windows = windows_of(alloc, first, arrivals, departures, operations)?;
@@ -168,7 +117,7 @@ fn windows_of(
 {
     let mut windows = Vec::new(alloc);
     for operation in operations.iter() {
-        if is_refused(operation.kind) {
+        if is_failed_enqueue(operation.kind) {
             windows.push(window_of(first, arrivals, departures, operation))?;
         }
     }

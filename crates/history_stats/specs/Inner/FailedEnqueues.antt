@@ -2,9 +2,9 @@
 use Rattle.std.specs.Prelude.{◌≡◌, ℕ, ◌+◌, ◌-◌, ◌<◌, ◌&&◌, Bool, List, length, count_by, filter_map}
 use Rattle.std.specs.Prelude.{nat_eq, nat_le, nat_lt, slice_index_or, take, Option, Some, None, if◌then◌else◌}
 use Rattle.history_merge.specs.declared.operation.Operation.{Operation}
-use Rattle.history_stats.specs.Counts.{is_refused}
+use Rattle.history_stats.specs.Counts.{is_failed_enqueue}
 use Rattle.history_stats.specs.Inner.AtOnce.{count_before}
-use Rattle.history_stats.specs.declared.refused.Window.{Window}
+use Rattle.history_stats.specs.declared.failed_enqueues.Window.{Window}
 
 -- the number present at a gap: some from the beginning, one more for each arrival, one less for each departure
 abbrev pub there_at : ℕ → List ℕ → List ℕ → ℕ → ℕ
@@ -27,7 +27,7 @@ window_of first arrivals departures o = record {
 -- the windows of the failed enqueues
 abbrev pub windows_of : ℕ → List ℕ → List ℕ → List Operation → List Window
 windows_of first arrivals departures operations =
-    filter_map (λ o. if is_refused o.kind then Some (window_of first arrivals departures o) else None) operations
+    filter_map (λ o. if is_failed_enqueue o.kind then Some (window_of first arrivals departures o) else None) operations
 
 -- the number of heights above this one
 abbrev pub count_above : ℕ → List ℕ → ℕ

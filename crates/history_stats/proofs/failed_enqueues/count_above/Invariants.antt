@@ -1,6 +1,6 @@
 use Rattle.std.proofs.Common.{◌≡◌, ℕ, ◌+◌, ◌≤◌, get_or, length, take}
-use Rattle.history_stats.specs.Inner.Refusing.{count_above}
-use Rattle.history_stats.proofs.refused.count_above.Given as goal
+use Rattle.history_stats.specs.Inner.FailedEnqueues.{count_above}
+use Rattle.history_stats.proofs.failed_enqueues.count_above.Given as goal
 
 abbrev pub invariant-loop-place : goal.invariant-loop-place
 invariant-loop-place l = record {

@@ -6,7 +6,7 @@ use Rattle.history_merge.specs.Initial.{HistoryView}
 use Rattle.history_merge.specs.Operations.{operations_of}
 use Rattle.history_merge.specs.declared.operation.Operation.{Operation}
 use Rattle.history_stats.specs.AtOnce.{gave, put_value}
-use Rattle.history_stats.specs.Counts.{is_refused}
+use Rattle.history_stats.specs.Counts.{is_failed_enqueue}
 
 -- the value that the operation enqueued, if it was called before the gap
 abbrev pub value_called_before : ℕ → Operation → Option ℕ
@@ -33,22 +33,23 @@ maybe_queued_at history gap =
     left_count gap operations (history.initial ++ values_called_before gap operations)
 
 -- a failed enqueue, one of the operations
-abbrev pub IsRefusal : List Operation → Operation → Type 0
-IsRefusal operations o = Contains operations o × (is_refused o.kind ≡ true)
+abbrev pub IsFailedEnqueue : List Operation → Operation → Type 0
+IsFailedEnqueue operations o = Contains operations o × (is_failed_enqueue o.kind ≡ true)
 
 -- a gap between the call and the return of the operation
 abbrev pub IsDuring : Operation → ℕ → Type 0
 IsDuring o gap = (o.call < gap) × (gap ≤ o.ret)
 
--- the minimum, over the failed enqueues, of the maximum number of values that may have been in the queue at a gap of
--- the call: during one of them there were never more, and during each there were as many at some gap
+-- the number that is printed as `refused-at`: the minimum, over the failed enqueues, of the maximum number of values
+-- that may have been in the queue at a gap of the call. During one of them there were never more, and during each
+-- there were as many at some gap
 pub record IsRefusedAt (operations : List Operation) (number_at : ℕ → ℕ) (least : ℕ) : Type 0 where
-  pub refusal : Operation
-  pub is_refusal : IsRefusal operations refusal
-  pub at_most : (gap : ℕ) → IsDuring refusal gap → number_at gap ≤ least
-  pub at_each : (other : Operation) → IsRefusal operations other
+  pub failed : Operation
+  pub is_failed : IsFailedEnqueue operations failed
+  pub at_most : (gap : ℕ) → IsDuring failed gap → number_at gap ≤ least
+  pub at_each : (other : Operation) → IsFailedEnqueue operations other
       → (gap : ℕ) × IsDuring other gap × (least ≤ number_at gap)
 
 -- no enqueue failed
-abbrev pub NoRefusal : List Operation → Type 0
-NoRefusal operations = (o : Operation) → ¬ (IsRefusal operations o)
+abbrev pub NoFailedEnqueue : List Operation → Type 0
+NoFailedEnqueue operations = (o : Operation) → ¬ (IsFailedEnqueue operations o)
