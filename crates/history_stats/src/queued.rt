@@ -83,7 +83,7 @@ pub(crate) fn ticket_for(kept: &BTreeMap<u64, u64>, value: u64) -> Option<u64>
     kept.get(&value).copied()
 }
 
-/// Adds the tickets at which initial values leave.
+/// Adds a departure for each initial value that is dequeued.
 pub(crate) fn add_initial(
     departures: &mut Vec<u64>,
     values: &[u64],
@@ -99,7 +99,7 @@ pub(crate) fn add_initial(
     Ok(())
 }
 
-/// Adds the ticket at which a value leaves, if it is dequeued.
+/// Adds the departure of a value, if it is dequeued.
 fn add_go(departures: &mut Vec<u64>, take: Option<u64>) -> Result<(), AllocError>
     ensures { OnOk result ((gap : ℕ) → count_before gap departures.new.items
         ≡ count_before gap departures.old.items + (if option_map_or (λ t. nat_lt t gap) take false then 1 else 0)) }
@@ -110,7 +110,7 @@ fn add_go(departures: &mut Vec<u64>, take: Option<u64>) -> Result<(), AllocError
     Ok(())
 }
 
-/// Adds the tickets at which the values of enqueues come, those of this moment, and at which they leave.
+/// Adds for each enqueue an arrival, at the ticket of this moment, and a departure if its value is dequeued.
 pub(crate) fn add_enqueued(
     arrivals: &mut Vec<u64>,
     departures: &mut Vec<u64>,
@@ -130,7 +130,7 @@ pub(crate) fn add_enqueued(
     Ok(())
 }
 
-/// Adds the ticket at which the value of one operation comes, and that at which it leaves, if it is an enqueue.
+/// Adds the arrival and the departure of the value of one operation, if it is an enqueue.
 fn add_one(
     arrivals: &mut Vec<u64>,
     departures: &mut Vec<u64>,
@@ -155,8 +155,7 @@ fn add_one(
     }
 }
 
-/// Adds the ticket at which a value comes, and that at which it leaves if it is dequeued. It doesn't leave before it
-/// comes.
+/// Adds the arrival of a value, and its departure if it is dequeued. A departure doesn't come before the arrival.
 fn add_stay(
     arrivals: &mut Vec<u64>,
     departures: &mut Vec<u64>,

@@ -88,7 +88,7 @@ fn are_both(lists: &Lists) -> bool {
 #[test]
 fn a_refused_round_leaves_both_events_to_the_next(rt: HostRuntime) -> Result<(), Fail> {
     let thread = ThreadNo::new(0).ok_or("thread")?;
-    // If something else than the round is refused, all is done once more.
+    // If a growth other than that of the round is refused, everything is done once more.
     let gives_both = match gives_both(rt.alloc(), thread) {
         Ok(gives_both) => gives_both,
         Err(_) => gives_both(rt.alloc(), thread)?,
