@@ -1,4 +1,4 @@
--- What the program answers: its text and its status.
+-- The program's answers, with their texts and statuses.
 use Rattle.std.specs.Prelude.{ℕ, List, ◌++◌, if◌then◌else◌, Bool, true, false, codes, decimal, Option, Some, None, ⊤}
 use Rattle.std.specs.List.{flat_map}
 use Rattle.event_records.specs.declared.event.Event.{Event}
@@ -23,7 +23,7 @@ use Rattle.stress_run.specs.Faults as run_names
 use Rattle.claims.specs.declared.claimed.Claimed.{Claimed}
 use Rattle.claims.specs.declared.claimed.Claimed.TheVariants as claim
 
--- what a command answers
+-- an answer of a command
 pub data Reply : Type 0 where
   -- a verdict
   judged : Claimed → Reply
@@ -48,9 +48,9 @@ pub data Reply : Type 0 where
   refused_history : HistoryFault → Reply
   -- the history or the verdict is too large to be drawn
   refused_size : Reply
-  -- the verdict has a linearization for each producer, and no one picture
+  -- the verdict has a linearization for each producer, so there is no single one to draw
   refused_orders : Reply
-  -- the words are refused: no queue has this name, or there are too many operations
+  -- the arguments are refused: no queue has this name, or there are too many operations
   refused_queue : Reply
   refused_limit : Reply
   -- a read failed, memory ran out, or a run gave no history
@@ -70,7 +70,7 @@ abbrev pub named : List ℕ → Option ℕ → List ℕ
 named name None = name
 named name (Some n) = name ++ codes " " ++ decimal n
 
--- how the line of a refusal begins, or that of a failure
+-- the beginning of the line of a refusal, or of a failure
 abbrev pub beginning : Bool → List ℕ
 beginning true = codes "REFUSED "
 beginning false = codes "FAULT "
@@ -85,7 +85,7 @@ rejection_line rejection = line (codes "REJECTED " ++ decimal rejection.step ++ 
 abbrev pub rejection_lines : List Rejection → List ℕ
 rejection_lines rejections = flat_map rejection_line rejections
 
--- the text of an answer: of a fault its name, and the line, the place, the ticket or the thread that it names
+-- the text of an answer; that of a fault is its name, and the line, the place, the ticket or the thread that it names
 abbrev pub answer_text : Reply → List ℕ
 answer_text (judged claimed) = verdict_text claimed
 answer_text (shown text claimed) = text_of text ++ verdict_text claimed
@@ -113,7 +113,7 @@ abbrev pub verdict_head : Claimed → List ℕ
 verdict_head (claim.Yes lines) = line (first_line None)
 verdict_head (claim.No kind lines) = line (first_line (Some kind))
 
--- the text of an answer that is asked for quietly: of a verdict the first line alone
+-- the text of an answer with `--quiet`: only the first line of a verdict
 abbrev pub quiet_text : Reply → List ℕ
 quiet_text (judged claimed) = verdict_head claimed
 quiet_text (shown text claimed) = verdict_head claimed
@@ -121,7 +121,7 @@ quiet_text (left_open rejections) = line (codes "OPEN")
 quiet_text (played rejections events claimed) = verdict_head claimed
 quiet_text answer = answer_text answer
 
--- the text of an answer, by whether it is asked for quietly
+-- the text of an answer, with `--quiet` or without
 abbrev pub said_text : Bool → Reply → List ℕ
 said_text false answer = answer_text answer
 said_text true answer = quiet_text answer
@@ -133,7 +133,7 @@ abbrev pub claim_status : Claimed → ℕ
 claim_status (claim.Yes lines) = 0
 claim_status (claim.No kind lines) = 1
 
--- the status of a refusal, or that of a failure
+-- the status of a refusal, or of a failure
 abbrev pub fault_status : Bool → ℕ
 fault_status true = 2
 fault_status false = 3

@@ -1,4 +1,4 @@
--- What `complete` answers of a text whose calls may be pending.
+-- The answers of `complete` to a text whose calls may be pending.
 use Rattle.std.specs.Prelude.{◌≡◌, ◌≢◌, ◌⊎◌, ℕ, Bool, true, IfSome, length}
 use Rattle.completions.specs.Completed.{completed, pending_calls}
 use Rattle.completions.specs.Faults.{IsBeyondLimits, MayBePending}
@@ -17,7 +17,7 @@ use Rattle.commands.specs.Judging.{Whether}
 
 -- ---- inputs
 
--- the input is this text and nothing more; or this is what comes of one before the input ends, where that is allowed
+-- the input is this text and nothing more; or it is cut off after a part of one, if that is allowed
 abbrev pub IsPendingOf : Bool → Ahead → PendingText → Type 0
 IsPendingOf takes_cut input text = (HasPendingText text × IsWhole (pending_text text) input)
     ⊎ ((takes_cut ≡ true) × IsCutText 0 input text)
@@ -29,7 +29,7 @@ IsFaultOfPendingInput takes_cut input fault =
 
 -- ---- answers
 
--- the history is no history but for pending calls, and this is its first fault
+-- the history is wrong even if calls may be pending, and the answer is its first fault
 pub record IsFaultyBefore (text : PendingText) (answer : Reply) : Type 0 where
   pub fault : HistoryFault
   pub first : IsFirstFault text.initial text.events fault
@@ -37,33 +37,33 @@ pub record IsFaultyBefore (text : PendingText) (answer : Reply) : Type 0 where
   pub other : (ticket : ℕ) → fault ≢ Pending ticket
   pub is : answer ≡ answer_of_history_fault fault
 
--- if the text says how many calls are pending, that many are
+-- if the text has a number of pending calls, it is right
 abbrev pub CountsPending : PendingText → Type 0
 CountsPending text = IfSome text.open_calls (λ calls. calls ≡ length (pending_calls text.events))
 
--- the completion, as a history's text of the same version
+-- the completion, as the text of a history in the same version
 abbrev pub completion_in : PendingText → HistoryText
 completion_in text =
     record { version = text.version; initial = text.initial; events = completed text.initial text.events }
 
--- there is a completion: the events are a history but for pending calls, it is within the limits, and the text counts
--- the pending calls rightly
+-- there is a completion: the events are a history with pending calls, it is within the limits, and the text has the
+-- right number of pending calls
 pub record IsCompletable (text : PendingText) : Type 0 where
   pub found : MayBePending text.initial text.events
   pub within : ¬ (IsBeyondLimits text.initial text.events)
   pub counted : CountsPending text
 
--- why there is none: the first fault of the history but for pending calls, the limits, or the count
+-- the reason why there is no completion: the first fault of a history with pending calls, the limits, or the number
 abbrev pub LacksCompletion : PendingText → Reply → Type 0
 LacksCompletion text answer = IsFaultyBefore text answer
     ⊎ (MayBePending text.initial text.events
     × Whether (IsBeyondLimits text.initial text.events) (answer ≡ refused_limit)
     ((¬ CountsPending text) × (answer ≡ refused_text Count)))
 
--- why there is no completion, or what is answered of it
+-- the reason why there is no completion, or the answer to it
 abbrev pub FaultOrCompletion : PendingText → (Reply → Type 0) → Reply → Type 0
 FaultOrCompletion text OfCompletion answer = LacksCompletion text answer ⊎ (IsCompletable text × OfCompletion answer)
 
--- `complete`: why there is no completion, or its text
+-- `complete`: the reason why there is no completion, or its text
 abbrev pub Completes : PendingText → Reply → Type 0
 Completes text answer = FaultOrCompletion text (λ a. a ≡ converted (completion_in text)) answer

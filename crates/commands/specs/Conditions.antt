@@ -1,5 +1,5 @@
--- The condition that a command judges: linearizability, local linearizability, and each with empty dequeues that
--- promise nothing.
+-- The condition by which a command judges: linearizability or local linearizability, each also with empty dequeues
+-- that promise nothing.
 use Rattle.std.specs.Prelude.{◌≡◌, Bool, true, false}
 use Rattle.command_words.specs.declared.options.Condition.{Condition}
 use Rattle.conditions.specs.Claims.{IsTrueLocalClaim, IsTrueWeakClaim, verdict_of}
@@ -19,14 +19,15 @@ use Rattle.verdicts.specs.Selection.{AreLinearizable, contents_of, IsMinimal}
 use Rattle.claims.specs.declared.verdict.Verdict.{Verdict}
 use Rattle.claims.specs.declared.claimed.Claimed.{Claimed}
 
--- what empty dequeues promise
+-- the promise of empty dequeues, by whether they promise nothing
 abbrev pub emptiness_if : Bool → Emptiness
 emptiness_if false = Strict
 emptiness_if true = Weak
 
 -- ---- whether a history meets it
 
--- by whether each producer's values are judged alone, and whether empty dequeues promise nothing
+-- the history meets the condition, by whether each producer's values are judged on their own, and whether empty
+-- dequeues promise nothing
 abbrev pub MeetsBy : Bool → Bool → Contents → Type 0
 MeetsBy false false whole = AreLinearizable whole
 MeetsBy false true whole = IsWeaklyLinearizable whole
@@ -38,8 +39,8 @@ Meets condition history = MeetsBy condition.is_local condition.is_weakly_empty (
 
 -- ---- its verdict
 
--- a linearization or a violation; one of the history without its empty dequeues; or the linearizations of the
--- producers' selections one after another, or a violation in the first that has none
+-- the verdict under the condition: a linearization or a violation; or one of the history without its empty dequeues;
+-- or the linearizations of the producers' selections one after another, or a violation in the first that has none
 abbrev pub IsDecidedBy : Bool → Bool → Contents → Verdict → Type 0
 IsDecidedBy false false whole verdict = IsDecided whole.initial whole.operations verdict
 IsDecidedBy false true whole verdict = IsDecidedOf whole (without_empties whole) verdict
@@ -53,8 +54,8 @@ IsDecidedUnder condition history verdict =
 
 -- ---- claims
 
--- the claim is evidence, by whether each producer's values are judged alone, and whether empty dequeues promise
--- nothing
+-- the claim is evidence under the condition, by whether each producer's values are judged on their own, and whether
+-- empty dequeues promise nothing
 abbrev pub IsTrueBy : Bool → Bool → Contents → Claimed → Type 0
 IsTrueBy false false whole claimed = IsTrueClaim whole.initial whole.operations claimed
 IsTrueBy false true whole claimed = IsTrueWeakClaim whole claimed
@@ -65,9 +66,10 @@ abbrev pub IsTrueUnder : Condition → HistoryView → Claimed → Type 0
 IsTrueUnder condition history claimed =
     IsTrueBy condition.is_local condition.is_weakly_empty (contents_of history) claimed
 
--- ---- what is shrunk
+-- ---- the part that is shrunk
 
--- what is left without the empty dequeues; or the selection of the first producer whose selection has no linearization
+-- the part in which a `NO` is found: the history; or the history without its empty dequeues; or the selection of the
+-- first producer whose selection has no linearization
 abbrev pub IsRefutedBy : Bool → Bool → Contents → Contents → Type 0
 IsRefutedBy false false whole part = part ≡ whole
 IsRefutedBy false true whole part = part ≡ without_empties whole
@@ -80,12 +82,12 @@ abbrev pub IsRefutedPart : Condition → HistoryView → HistoryView → Type 0
 IsRefutedPart condition history part =
     IsRefutedBy condition.is_local condition.is_weakly_empty (contents_of history) (contents_of part)
 
--- it doesn't meet the condition, while every other selection of it does
+-- the history doesn't meet the condition, while every other selection of it does
 abbrev pub IsMinimalBy : Bool → Bool → Contents → Type 0
 IsMinimalBy false false whole = IsMinimal whole
 IsMinimalBy false true whole = IsWeaklyMinimal whole
 IsMinimalBy true is_weak whole = IsLocallyMinimal (emptiness_if is_weak) whole
 
--- the same of a condition
+-- the history is minimal for the condition
 abbrev pub IsMinimalUnder : Condition → HistoryView → Type 0
 IsMinimalUnder condition history = IsMinimalBy condition.is_local condition.is_weakly_empty (contents_of history)

@@ -1,4 +1,4 @@
--- What `draw` answers of a history, of one with a claim, and of one whose calls may be pending.
+-- The answers of `draw` to a history, to one with a claim, and to one whose calls may be pending.
 use Rattle.std.specs.Prelude.{◌≡◌, ◌≤◌, ℕ, Bool, false, true, List, length, Option, Some, None, ⊤}
 use Rattle.command_words.specs.declared.options.Condition.{Condition}
 use Rattle.command_words.specs.declared.options.DrawOptions.{DrawOptions}
@@ -24,39 +24,39 @@ use Rattle.commands.specs.Completing.{FaultOrCompletion, completion_in}
 use Rattle.commands.specs.Inputs.{ClaimOnText, Drawable, alone, claim_on, history_in, with_claim}
 use Rattle.commands.specs.Judging.{FaultOr, IsEvident, IsSound, IsVerdictClaim, Whether, said_by}
 
--- ---- what is small enough
+-- ---- sizes
 
 -- the claim has few enough lines to be drawn, and few enough operations are drawn with it
 pub record IsSmall (options : DrawOptions) (claim : ClaimOnText) : Type 0 where
   pub few_lines : count_of_lines claim.claimed ≤ MOST_DRAWN
   pub few_operations : length (drawn_operations (said_by claim.text) claim.claimed options.around) ≤ MOST_DRAWN
 
--- ---- pictures. Of a completion, `added` is the ticket of the first return that it added
+-- ---- pictures. For a completion, `added` is the ticket of the first return that it added
 
--- the picture of a history's scene, in a form
+-- the picture of a history's scene, in this form
 abbrev pub picture_in : PictureForm → HistoryView → SceneView → List ℕ
 picture_in Svg history scene = svg_picture scene
 picture_in Html history scene = html_picture history scene
 picture_in Terminal history scene = terminal_picture scene
 
--- the picture of a history and a claim: of what is drawn of them, in the form that is asked for
+-- the picture of a history with a claim, in the form and with the operations that are asked for
 abbrev pub picture_of : DrawOptions → Option ℕ → HistoryView → Claimed → List ℕ
 picture_of options added history claimed =
     picture_in options.form history (scene_of history claimed (drawn_operations history claimed options.around) added)
 
 -- ---- under a condition
 
--- the condition without what it says of empty dequeues
+-- the condition, but with empty dequeues that promise something
 abbrev pub strict : Condition → Condition
 strict condition = record { is_local = condition.is_local; is_weakly_empty = false }
 
--- the claim is a violation or one linearization: not those of several producers
+-- the claim is a violation or a single linearization, not those of several producers
 abbrev pub IsOneOrder : Bool → Claimed → Type 0
 IsOneOrder true (Yes lines) = ⊥
 IsOneOrder true (No kind lines) = ⊤
 IsOneOrder false claimed = ⊤
 
--- this is answered of the text of a history; or of it without its empty dequeues, where these promise nothing
+-- the answer is that to the text of a history without its empty dequeues
 pub record IsDrawnWithout (text : HistoryText) (OfText : HistoryText → Reply → Type 0) (answer : Reply) : Type 0 where
   pub part : HistoryView
   pub selected : contents_of part ≡ without_empties (contents_of (said_by text))
@@ -68,10 +68,10 @@ abbrev pub DrawsPart : Bool → HistoryText → (HistoryText → Reply → Type 
 DrawsPart false text OfText answer = OfText text answer
 DrawsPart true text OfText answer = IsDrawnWithout text OfText answer
 
--- ---- of a complete history
+-- ---- complete histories
 
--- the picture with the claim, if they are small and the claim is evidence; but the linearizations of several producers
--- have none
+-- the picture with the claim, if both are small enough and the claim is evidence. The linearizations of several
+-- producers have no picture
 abbrev pub DrawsSound : DrawOptions → Option ℕ → ClaimOnText → Reply → Type 0
 DrawsSound options added claim answer = Whether (IsSmall options claim)
     (Whether (IsEvident (strict options.condition) claim)
@@ -81,7 +81,7 @@ DrawsSound options added claim answer = Whether (IsSmall options claim)
     (answer ≡ verified false))
     (answer ≡ refused_size)
 
--- of a complete history: the picture with the claim of its verdict, if they are small; that claim is evidence
+-- the picture of a complete history with the claim of its verdict, which is evidence, if both are small enough
 pub record DrawsDecided (options : DrawOptions) (added : Option ℕ) (text : HistoryText) (answer : Reply) : Type 0 where
   pub claimed : Claimed
   pub right : IsVerdictClaim (strict options.condition) (said_by text) claimed
@@ -90,7 +90,7 @@ pub record DrawsDecided (options : DrawOptions) (added : Option ℕ) (text : His
 
 -- ---- `draw`
 
--- the first fault of the history, or the picture with the claim, if they are small and the claim is evidence
+-- the first fault of the history; or the picture with the claim, if both are small enough and the claim is evidence
 abbrev pub DrawsClaim : DrawOptions → ClaimOnText → Reply → Type 0
 DrawsClaim options claim answer = FaultOr (said_by claim.text)
     (DrawsPart options.condition.is_weakly_empty claim.text
@@ -101,19 +101,19 @@ abbrev pub DrawsHistory : DrawOptions → HistoryText → Reply → Type 0
 DrawsHistory options text answer =
     FaultOr (said_by text) (DrawsPart options.condition.is_weakly_empty text (DrawsDecided options None)) answer
 
--- why there is no completion; or its picture with the claim of its verdict, in which the calls that it answers are
--- open
+-- the reason why there is no completion; or its picture with the claim of its verdict, in which the calls that the
+-- completion answers are open
 abbrev pub DrawsPending : DrawOptions → PendingText → Reply → Type 0
 DrawsPending options text answer = FaultOrCompletion text
     (DrawsPart options.condition.is_weakly_empty (completion_in text)
     (DrawsDecided options (Some (next_ticket text.events)))) answer
 
--- a text that counts its pending calls is drawn as its completion, and the text of a history as this
+-- a text that counts its pending calls is drawn as its completion, and the text of a history as itself
 abbrev pub DrawsAlone : DrawOptions → PendingText → Option ℕ → Reply → Type 0
 DrawsAlone options text (Some calls) answer = DrawsPending options text answer
 DrawsAlone options text None answer = DrawsHistory options (history_in text) answer
 
--- what is answered of a history with a claim, and of a text on its own
+-- the answer to a history with a claim, or to a text on its own
 abbrev pub Draws : DrawOptions → Drawable → Reply → Type 0
 Draws options (alone text) answer = DrawsAlone options text text.open_calls answer
 Draws options (with_claim claim) answer = DrawsClaim options claim answer

@@ -1,5 +1,5 @@
--- An input has one answer. What one command writes, another answers alike: every answer is evidence, and what
--- `convert` writes stands for the history that it read.
+-- Laws of the answers. An input has one answer. Commands answer the texts of other commands alike: every answer is
+-- evidence, and the text of `convert` stands for the history that it read.
 use Rattle.std.specs.Prelude.{◌≡◌, ◌↔◌, ℕ, Bool, List, ◌++◌, ◌⊎◌, true, ⊤}
 use Rattle.event_records.specs.declared.event.Event.{Event}
 use Rattle.simulation.specs.declared.playing.Rejection.{Rejection}
@@ -36,7 +36,7 @@ input_of bytes = record { bytes = bytes; ending = EndOfInput }
 abbrev pub SameOrNoMemory : Reply → Reply → Type 0
 SameOrNoMemory a b = (a ≡ b) ⊎ ((a ≡ memory_fault) ⊎ (b ≡ memory_fault))
 
--- two answers that a command may give of one input are the same, out of memory aside
+-- two answers that a command may give to one input are the same, unless memory ran out
 abbrev pub HasOneAnswer : Request → Type 0
 HasOneAnswer request = (input : Ahead) (a b : Reply) → AnswersOf request input a → AnswersOf request input b
     → SameOrNoMemory a b
@@ -51,7 +51,7 @@ IsValidOrNoMemory answer = (answer ≡ verified true) ⊎ (answer ≡ memory_fau
 abbrev pub IsVerdictOrNoMemory : Claimed → Reply → Type 0
 IsVerdictOrNoMemory claimed answer = (answer ≡ judged claimed) ⊎ (answer ≡ memory_fault)
 
--- where `check` answers an input with a verdict, `verify` answers that input, followed by the verdict's text, with
+-- if `check` answers an input with a verdict, `verify` answers that input, followed by the verdict's text, with
 -- `VALID`
 abbrev pub CheckedIsValid : Type 0
 CheckedIsValid = (bytes : List ℕ) (claimed : Claimed) (answer : Reply)
@@ -59,13 +59,13 @@ CheckedIsValid = (bytes : List ℕ) (claimed : Claimed) (answer : Reply)
     → AnswersOf (verify linearizability) (input_of (bytes ++ answer_text (judged claimed))) answer
     → IsValidOrNoMemory answer
 
--- so it is under each condition, if `verify` can read a text of as many lines
+-- the same under each condition, if `verify` can read a text of as many lines
 abbrev pub CheckedIsValidUnder : Condition → Type 0
 CheckedIsValidUnder condition = (bytes : List ℕ) (claimed : Claimed) (answer : Reply) → HasVerdictText claimed
     → AnswersOf (check condition) (input_of bytes) (judged claimed)
     → AnswersOf (verify condition) (input_of (bytes ++ answer_text (judged claimed))) answer → IsValidOrNoMemory answer
 
--- and a `NO` under any condition is evidence that the history isn't linearizable
+-- a `NO` of `check` under any condition is evidence that the history isn't linearizable
 abbrev pub RefutedIsValid : Condition → Type 0
 RefutedIsValid condition = (bytes : List ℕ) (kind : ViolationKind) (lines : List ClaimLine) (answer : Reply)
     → HasVerdictText (claim.No kind lines)
@@ -73,21 +73,22 @@ RefutedIsValid condition = (bytes : List ℕ) (kind : ViolationKind) (lines : Li
     → AnswersOf (verify linearizability) (input_of (bytes ++ answer_text (judged (claim.No kind lines)))) answer
     → IsValidOrNoMemory answer
 
--- where `shrink` answers an input with a history and its verdict, `verify` answers these two texts with `VALID`
+-- if `shrink` answers an input with a history and its verdict, `verify` answers these two texts with `VALID`
 abbrev pub ShrunkIsValid : Condition → Type 0
 ShrunkIsValid condition = (bytes : List ℕ) (small : HistoryText) (claimed : Claimed) (answer : Reply)
     → AnswersOf (shrink condition) (input_of bytes) (shown small claimed)
     → AnswersOf (verify linearizability) (input_of (answer_text (shown small claimed))) answer
     → IsValidOrNoMemory answer
 
--- and `check` answers the text of that history with that same verdict, or memory runs out
+-- if `shrink` answers an input with a history and its verdict, `check` answers the text of that history with this
+-- verdict, unless memory runs out
 abbrev pub ShrunkIsChecked : Condition → Type 0
 ShrunkIsChecked condition = (bytes : List ℕ) (small : HistoryText) (claimed : Claimed) (answer : Reply)
     → AnswersOf (shrink condition) (input_of bytes) (shown small claimed)
     → AnswersOf (check linearizability) (input_of (text_of small)) answer → IsVerdictOrNoMemory claimed answer
 
--- where `stress` answers with a history that has a text, and its verdict, `check` answers that text with this very
--- verdict, or memory runs out
+-- if `stress` answers with a history that has a text, and with its verdict, `check` answers that text with this
+-- verdict, unless memory runs out
 abbrev pub StressedIsChecked : Condition → Type 0
 StressedIsChecked condition =
     (count : ℕ) (lists : List (List Event)) (text : HistoryText) (claimed : Claimed) (answer : Reply) → HasText text
@@ -95,7 +96,8 @@ StressedIsChecked condition =
     → AnswersOf (check condition) (input_of (text_of text)) answer
     → IsVerdictOrNoMemory claimed answer
 
--- and `verify` answers the two texts with `VALID`
+-- if `stress` answers with a history that has a text, and with its verdict, `verify` answers the two texts with
+-- `VALID`
 abbrev pub StressedIsValid : Type 0
 StressedIsValid = (count : ℕ) (lists : List (List Event)) (text : HistoryText) (claimed : Claimed) (answer : Reply)
     → HasText text
@@ -103,15 +105,15 @@ StressedIsValid = (count : ℕ) (lists : List (List Event)) (text : HistoryText)
     → AnswersOf (verify linearizability) (input_of (answer_text (shown text claimed))) answer
     → IsValidOrNoMemory answer
 
--- so it does under each condition, if it can read a text of as many lines
+-- the same under each condition, if `verify` can read a text of as many lines
 abbrev pub StressedIsValidUnder : Condition → Type 0
 StressedIsValidUnder condition =
     (count : ℕ) (lists : List (List Event)) (text : HistoryText) (claimed : Claimed) (answer : Reply) → HasText text
     → HasVerdictText claimed → IsShownRun condition count lists (shown text claimed)
     → AnswersOf (verify condition) (input_of (answer_text (shown text claimed))) answer → IsValidOrNoMemory answer
 
--- where `sim` answers with a history that has a text, and its verdict, `check` answers that text with this very
--- verdict, or memory runs out
+-- if `sim` answers with a history that has a text, and with its verdict, `check` answers that text with this verdict,
+-- unless memory runs out
 abbrev pub SimulatedIsChecked : Type 0
 SimulatedIsChecked =
     (bytes : List ℕ) (rejected : List Rejection) (events : List Event) (claimed : Claimed) (answer : Reply)
@@ -120,7 +122,7 @@ SimulatedIsChecked =
     → AnswersOf (check linearizability) (input_of (history_text events)) answer
     → IsVerdictOrNoMemory claimed answer
 
--- and `verify` answers the two texts with `VALID`
+-- if `sim` answers with a history that has a text, and with its verdict, `verify` answers the two texts with `VALID`
 abbrev pub SimulatedIsValid : Type 0
 SimulatedIsValid =
     (bytes : List ℕ) (rejected : List Rejection) (events : List Event) (claimed : Claimed) (answer : Reply)
@@ -129,8 +131,8 @@ SimulatedIsValid =
     → AnswersOf (verify linearizability) (input_of (history_text events ++ verdict_text claimed)) answer
     → IsValidOrNoMemory answer
 
--- where `check` answers an input with a verdict, `draw` without a weaker condition answers that input as it answers it
--- followed by the verdict's text, or memory runs out
+-- if `check` answers an input with a verdict, `draw` without a weaker condition answers that input in the same way as
+-- the input followed by the verdict's text, unless memory runs out
 abbrev pub DrawnAsChecked : DrawOptions → Type 0
 DrawnAsChecked options = options.condition ≡ linearizability → (bytes : List ℕ) (claimed : Claimed) (a b : Reply)
     → AnswersOf (check linearizability) (input_of bytes) (judged claimed)
@@ -139,25 +141,26 @@ DrawnAsChecked options = options.condition ≡ linearizability → (bytes : List
 
 -- ---- completions
 
--- what `complete` answers with is the text of a complete history
+-- the text with which `complete` answers is that of a complete history
 abbrev pub CompletedIsHistory : Bool → Type 0
 CompletedIsHistory takes_cut = (bytes : List ℕ) (to : HistoryText)
     → AnswersOf (complete takes_cut) (input_of bytes) (converted to)
     → IsHistoryOf (input_of (text_of to)) to × IsSound (said_by to)
 
--- the verdict is that there is a linearization
+-- the verdict is `YES`
 abbrev pub IsYes : Claimed → Type 0
 IsYes (claim.Yes operations) = ⊤
 IsYes (claim.No kind lines) = ⊥
 
--- `check` answers it with a `YES` if and only if some completion of the history that was read has a linearization
+-- `check` answers the text of `complete` with `YES` if and only if some completion of the history that was read has a
+-- linearization
 abbrev pub CompletedIsDecided : Bool → Type 0
 CompletedIsDecided takes_cut = (bytes : List ℕ) (text : PendingText) (to : HistoryText) (claimed : Claimed)
     → IsPendingOf takes_cut (input_of bytes) text → AnswersOf (complete takes_cut) (input_of bytes) (converted to)
     → AnswersOf (check linearizability) (input_of (text_of to)) (judged claimed)
     → IsYes claimed ↔ CompletesLinearizably text.initial text.events
 
--- a complete history comes out as it is
+-- `complete` answers a complete history with its own text
 abbrev pub CompletedIsKept : Bool → Type 0
 CompletedIsKept takes_cut = (bytes : List ℕ) (text to : HistoryText) → IsHistoryOf (input_of bytes) text
     → IsSound (said_by text)
@@ -165,32 +168,32 @@ CompletedIsKept takes_cut = (bytes : List ℕ) (text to : HistoryText) → IsHis
 
 -- ---- conversions
 
--- where `convert` answers a text with another, both say one history, and the other is the text of it in version 2
+-- if `convert` answers a text with another, both are of one history, and the other is its text in version 2
 abbrev pub ConvertedIsSameHistory : Type 0
 ConvertedIsSameHistory = (bytes : List ℕ) (text to : HistoryText) → IsHistoryOf (input_of bytes) text
     → AnswersOf convert (input_of bytes) (converted to)
     → (said_by to ≡ said_by text) × (to.version ≡ Two) × IsHistoryOf (input_of (text_of to)) to
 
--- a text of version 2 comes out as it is: so what was converted is converted to the same bytes
+-- `convert` answers a text of version 2 with the same bytes
 abbrev pub ConvertedIsKept : Type 0
 ConvertedIsKept = (bytes : List ℕ) (text to : HistoryText) → IsHistoryOf (input_of bytes) text → text.version ≡ Two
     → AnswersOf convert (input_of bytes) (converted to) → text_of to ≡ bytes
 
--- `check` answers a text and its conversion alike, or memory runs out
+-- `check` answers a text and its conversion alike, unless memory runs out
 abbrev pub ConvertedIsChecked : Condition → Type 0
 ConvertedIsChecked condition = (bytes : List ℕ) (to : HistoryText) (a b : Reply)
     → AnswersOf convert (input_of bytes) (converted to)
     → AnswersOf (check condition) (input_of bytes) a → AnswersOf (check condition) (input_of (text_of to)) b
     → SameOrNoMemory a b
 
--- so does `stats`
+-- `stats` answers a text and its conversion alike, unless memory runs out
 abbrev pub ConvertedIsCounted : Bool → Type 0
 ConvertedIsCounted overtakes = (bytes : List ℕ) (to : HistoryText) (a b : Reply)
     → AnswersOf convert (input_of bytes) (converted to)
     → AnswersOf (stats overtakes) (input_of bytes) a → AnswersOf (stats overtakes) (input_of (text_of to)) b
     → SameOrNoMemory a b
 
--- `verify` answers a claim alike behind a text and behind its conversion, or memory runs out
+-- `verify` answers a claim alike after a text and after its conversion, unless memory runs out
 abbrev pub ConvertedIsVerified : Condition → Type 0
 ConvertedIsVerified condition = (bytes : List ℕ) (to : HistoryText) (claimed : Claimed) (a b : Reply)
     → HasVerdictText claimed

@@ -21,7 +21,7 @@ pub record IsWhole (written : List ℕ) (input : Ahead) : Type 0 where
   pub bytes : input.bytes ≡ written
   pub ending : input.ending ≡ EndOfInput
 
--- the text of a value stands at the front, and what comes after it is so
+-- the input begins with the text of a value, and this holds of the value and of what follows
 pub record AfterText {A : Type 0} (Has : A → Type 0) (text_of : A → List ℕ) (P : A → List ℕ → Type 0) (bytes : List ℕ)
     : Type 0 where
   pub value : A
@@ -31,7 +31,7 @@ pub record AfterText {A : Type 0} (Has : A → Type 0) (text_of : A → List ℕ
   pub after : P value rest
 
 -- the fault of input that should be the text of one of these values and then something else: that of the text, or of
--- what comes after it; out of memory says that a line without fault was there
+-- the rest. Out of memory is a fault only if the input has a line without fault
 abbrev pub IsFaultOfTexts : {A : Type 0} → (A → Type 0) → (A → List ℕ) → (Ending → List ℕ → TextFault → Type 0)
     → (List ℕ → Type 0)
     → (A → Ending → List ℕ → TextFault → Type 0) → (A → List ℕ → Type 0) → Ahead → TextFault → Type 0
@@ -41,7 +41,7 @@ IsFaultOfTexts Has text_of IsFirst LacksRoom IsNext LacksNext input fault =
     ⊎ AfterText Has text_of (λ value rest. IsNext value input.ending rest f) input.bytes)
     fault
 
--- the fault of input that should be over: another byte, or a read that fails
+-- the fault of input that should have ended: another byte, or a read that fails
 abbrev pub IsFaultOfEnd : Ending → List ℕ → TextFault → Type 0
 IsFaultOfEnd ending rest fault = IsEndFault (record { bytes = rest; ending = ending }) fault
 
@@ -75,7 +75,7 @@ IsFaultOfScheduleInput input fault =
 
 -- ---- a history, and a verdict on it
 
--- the text of a history, and what is claimed of it
+-- the text of a history, and a claim about it
 pub record ClaimOnText : Type 0 where
   pub text : HistoryText
   pub claimed : Claimed
@@ -102,7 +102,7 @@ IsFaultOfClaimInput input fault = IsFaultOfTexts HasText text_of (IsTextFault 0)
 abbrev pub history_in : PendingText → HistoryText
 history_in text = record { version = text.version; initial = text.initial; events = text.events }
 
--- a text alone, or that of a history with what is claimed of it
+-- a text on its own, or that of a history with a claim about it
 pub data Drawable : Type 0 where
   alone : PendingText → Drawable
   with_claim : ClaimOnText → Drawable
@@ -117,14 +117,14 @@ abbrev pub IsDrawableOf : Ahead → Drawable → Type 0
 IsDrawableOf input (alone text) = HasPendingText text × IsWhole (pending_text text) input
 IsDrawableOf input (with_claim claim) = IsClaimOf input claim
 
--- the fault of what comes after a text, by its number of lines: after one that counts pending calls, that the input
--- isn't over; after a history that of a verdict, but input that is over has none
+-- the fault of the input after a text, by its number of lines: after one that counts pending calls, that the input
+-- goes on; after a history the fault of a verdict, unless the input ends there
 abbrev pub FaultBehind : Option ℕ → ℕ → Ending → List ℕ → TextFault → Type 0
 FaultBehind (Some calls) lines ending rest fault = IsFaultOfEnd ending rest fault
 FaultBehind None lines ending rest fault =
     IsVerdictTextFault lines ending rest fault × (¬ ((rest ≡ []) × (ending ≡ EndOfInput)))
 
--- the fault of what comes after a text
+-- the fault of the input after a text
 abbrev pub IsFaultBehind : PendingText → Ending → List ℕ → TextFault → Type 0
 IsFaultBehind text ending rest fault = FaultBehind text.open_calls (pending_line_count text) ending rest fault
 

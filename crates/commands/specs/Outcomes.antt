@@ -1,4 +1,4 @@
--- What a command found, or why it found nothing, as the answer that it prints.
+-- The outcome of a command, what it found or its fault, as the answer that is printed.
 use Rattle.std.specs.Prelude.{◌≡◌, ℕ, List, [], Option, None, Ok, Err, codes, MatchOption, ⊤}
 use Rattle.history_text.specs.declared.version.Version.TheVariants.{One, Two}
 use Rattle.history_text.specs.Versions.{said_in}
@@ -23,7 +23,7 @@ use Rattle.commands.specs.Answers.{drawn, refused_orders, refused_size}
 use Rattle.commands.specs.Answers.{refused_queue, refused_limit, memory_fault, run_fault, answer_of_text_fault}
 use Rattle.commands.specs.Answers.{answer_of_history_fault}
 
--- the answer that is printed of what was found: of a verdict what it claims, of the rest the same
+-- the answer that is printed for what was found: for a verdict its claim, for the rest the same
 abbrev pub answer_of_report : Report → Reply
 answer_of_report (Judged history verdict) = judged (claim_of history.initial (operations_of history.events) verdict)
 answer_of_report (Shown version history verdict) =
@@ -39,7 +39,7 @@ answer_of_report (Counted statistics) = counted statistics
 answer_of_report (Overtaken overtakings) = overtaken overtakings.items
 answer_of_report (Drawn picture) = drawn picture.items
 
--- the answer that is printed of a fault
+-- the answer that is printed for a fault
 abbrev pub answer_of_fault : Fault → Reply
 answer_of_fault (Text fault) = answer_of_text_fault fault
 answer_of_fault (History incomplete) = answer_of_history_fault incomplete.fault
@@ -50,23 +50,23 @@ answer_of_fault Limit = refused_limit
 answer_of_fault Memory = memory_fault
 answer_of_fault (Run fault) = run_fault fault
 
--- why a command finds nothing where a history has no completion
+-- the fault of a command if a history has no completion
 abbrev pub fault_of_completion : CompletionFault → Fault
 fault_of_completion (completion.History fault) = History (record { fault = fault; clash = None })
 fault_of_completion completion.Limit = Limit
 
--- if a fault names what clashes, that clashes in this history, and explains the fault
+-- if a fault names events that clash, they clash in this history, and explain the fault
 abbrev pub NamesClash : List ℕ → List Event → Fault → Type 0
 NamesClash initial events (History incomplete) =
     MatchOption incomplete.clash ⊤ (λ clash. IsClash initial events clash × (fault_of clash ≡ incomplete.fault))
 NamesClash initial events _ = ⊤
 
--- the answer that an outcome prints
+-- the answer that is printed for an outcome
 abbrev pub answer_of : Result Report Fault → Reply
 answer_of (Ok found) = answer_of_report found
 answer_of (Err fault) = answer_of_fault fault
 
--- the name of a fault, as it is printed
+-- the printed name of a fault
 abbrev pub name_of : Fault → List ℕ
 name_of (Text fault) = text_names.name_of fault
 name_of (History incomplete) = history_names.name_of incomplete.fault
@@ -77,7 +77,7 @@ name_of Limit = codes "Limit"
 name_of Memory = codes "Memory"
 name_of (Run fault) = run_names.name_of fault
 
--- the line, the place, the ticket or the thread that it names
+-- the line, the place, the ticket or the thread that a fault names
 abbrev pub place_in : Fault → Option ℕ
 place_in (Text fault) = text_names.line_in fault
 place_in (History incomplete) = history_names.place_in incomplete.fault
@@ -94,7 +94,7 @@ HasPlaces (Played rejections history verdict) = IsWithin history.initial (operat
     × (history.initial ≡ [])
 HasPlaces _ = ⊤
 
--- what was found, if anything was, has such places
+-- a report has such places; a fault has none
 abbrev pub NamesPlaces : Result Report Fault → Type 0
 NamesPlaces (Ok found) = HasPlaces found
 NamesPlaces (Err fault) = ⊤

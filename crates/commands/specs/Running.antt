@@ -1,4 +1,4 @@
--- What a run of the program leaves behind.
+-- The results of a run of the program.
 use Rattle.std.specs.Prelude.{◌≡◌, ℕ, Bool, true, false, List, [], Option, ◌⊎◌, codes}
 use Rattle.std.specs.Io.KnownBytes.{Appends, append_known}
 use Rattle.text_lines.specs.Input.{Ahead}
@@ -17,24 +17,24 @@ use Rattle.commands.specs.Completing.{Completes, IsFaultOfPendingInput, IsPendin
 use Rattle.commands.specs.Drawing.{Draws}
 use Rattle.commands.specs.Judging.{AnswersFor, Judges, Shrinks, Verifies, Converts, Counts, Simulates}
 
--- where the writer refused nothing the text is written whole, with this status; else a prefix of it is, and the status
--- is 3
+-- if the writer refused nothing, the whole text is written, with this status; otherwise a prefix of it is, and the
+-- status is 3
 abbrev pub Prints : Option (List ℕ) → Option (List ℕ) → Bool → ℕ → List ℕ → ℕ → Type 0
 Prints old new false result text status = Appends old new text × (result ≡ status)
 Prints old new true result text status = AppendsFront old new text × (result ≡ 3)
 
--- where nothing was refused the writer took bytes and then was flushed, once; else the refusal was the last that it
--- was asked
+-- if nothing was refused, the writer took bytes and then was flushed once; otherwise it was asked nothing after the
+-- refusal
 abbrev pub WritesAndFlushes : {S : Type 0} → (S → Asked → S → Type 0) → Bool → S → S → Type 0
 WritesAndFlushes transition false old new = IsFlushed transition old new
 WritesAndFlushes transition true old new = IsRefused transition old new
 
--- standard error took these bytes; or it refused some of them, and took a prefix
+-- standard error took these bytes, or refused some of them and took a prefix
 abbrev pub Says : Option (List ℕ) → Option (List ℕ) → Bool → List ℕ → Type 0
 Says old new false text = Appends old new text
 Says old new true text = AppendsFront old new text
 
--- standard error says a message
+-- standard error took a message
 abbrev pub SaysMessage : Option (List ℕ) → Option (List ℕ) → Bool → Type 0
 SaysMessage old new refused = (text : List ℕ) × IsMessage text × Says old new refused text
 
@@ -42,19 +42,19 @@ SaysMessage old new refused = (text : List ℕ) × IsMessage text × Says old ne
 abbrev pub PrintsAnswer : Option (List ℕ) → Option (List ℕ) → Bool → ℕ → Reply → Type 0
 PrintsAnswer old new refused result answer = Prints old new refused result (answer_text answer) (answer_status answer)
 
--- the same of an answer that may be asked for quietly
+-- the answer's text is printed, with `--quiet` or without, with its status
 abbrev pub PrintsSaid : Bool → Option (List ℕ) → Option (List ℕ) → Bool → ℕ → Reply → Type 0
 PrintsSaid quiet old new refused result answer =
     Prints old new refused result (said_text quiet answer) (answer_status answer)
 
--- this was printed to a writer behind a buffer, which holds nothing back unless the writer refused
+-- this was printed to a writer with a buffer before it, which holds nothing back unless the writer refused
 pub record Behind (Printed : Option (List ℕ) → Bool → Type 0) (new : Option (List ℕ)) : Type 0 where
   pub held : List ℕ
   pub refused : Bool
   pub all_passed_on : refused ≡ false → held ≡ []
   pub printed : Printed (append_known new held) refused
 
--- what a command answers of an input; `stress` reads none
+-- the answer of a command to an input; `stress` reads none
 abbrev pub AnswersOf : Request → Ahead → Reply → Type 0
 AnswersOf (check condition) input answer = AnswersFor IsHistoryOf IsFaultOfHistoryInput (Judges condition) input answer
 AnswersOf (shrink condition) input answer =
@@ -68,31 +68,31 @@ AnswersOf (stats overtakes) input answer = AnswersFor IsHistoryOf IsFaultOfHisto
 AnswersOf sim input answer = AnswersFor IsScheduleOf IsFaultOfScheduleInput Simulates input answer
 AnswersOf (stress settings) input answer = Unit {0}
 
--- an answer of this kind was printed, quietly or whole
+-- an answer of this kind was printed, with `--quiet` or without
 pub record PrintsOneOf (quiet : Bool) (IsAnswer : Reply → Type 0) (old new : Option (List ℕ)) (refused : Bool)
     (result : ℕ) : Type 0 where
   pub answer : Reply
   pub right : IsAnswer answer
   pub printed : PrintsSaid quiet old new refused result answer
 
--- a help or a version, or a mistake in the words
+-- the status of a help or a version, or of wrong arguments
 abbrev pub usage_status : ErrorKind → ℕ
 usage_status kind.DisplayHelp = 0
 usage_status kind.DisplayVersion = 0
 usage_status _ = 2
 
--- what is printed if an argument isn't UTF-8
+-- the text that is printed if an argument isn't UTF-8
 abbrev pub no_text : List ℕ
 no_text = line (codes "error: a word is not valid UTF-8")
 
--- a text about the use of the program, of one of these kinds
+-- a text about the use of the program is printed, of one of these kinds
 pub record PrintsUsage (kinds : Kinds) (old new : Option (List ℕ)) (refused : Bool) (result : ℕ) : Type 0 where
   pub reason : ErrorKind
   pub among : IsAmong reason kinds
   pub text : List ℕ
   pub printed : Prints old new refused result text (usage_status reason)
 
--- other arguments have a text about the use of the program, or memory ran out
+-- a text about the use of the program is printed, or memory ran out
 abbrev pub ExplainsUse : Kinds → Option (List ℕ) → Option (List ℕ) → Bool → ℕ → Type 0
 ExplainsUse kinds old new refused result = PrintsUsage kinds old new refused result
     ⊎ PrintsAnswer old new refused result memory_fault

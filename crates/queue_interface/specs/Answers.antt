@@ -25,16 +25,16 @@ IsOfKind Deq Empty = Unit {0}
 abbrev pub AnswersInKind : Question → Answer → Type 0
 AnswersInKind question answer = IsOfKind question.kind answer
 
--- a value that is put in before a run may be taken or refused
+-- a value that is enqueued before a run may be enqueued, or its enqueue may fail
 abbrev pub TakesOrRefuses : ℕ → Bool → Type 0
 TakesOrRefuses value taken = ⊤
 
--- the answer that changes nothing: an enqueue is not taken, and a dequeue finds nothing
+-- the answer that changes nothing: an enqueue fails, and a dequeue finds the queue empty
 abbrev pub refusal : Kind → Answer
 refusal Enq = Not
 refusal Deq = Empty
 
--- what an entry says to a question of this kind; an entry of the other kind says that nothing happened
+-- the answer of an entry to a question of this kind; an entry of the other kind answers that nothing happened
 abbrev pub said : Kind → Entry → Answer
 said Enq SaysTaken = Taken
 said Enq SaysNotTaken = Not
@@ -45,7 +45,7 @@ said Deq SaysNotTaken = Empty
 said Deq (SaysGot v) = Got v
 said Deq SaysEmpty = Empty
 
--- what an entry says if there is one, and else that nothing happened
+-- the answer of an entry; without an entry, that nothing happened
 abbrev pub said_if : Kind → Option Entry → Answer
 said_if k None = refusal k
 said_if k (Some e) = said k e
@@ -54,6 +54,6 @@ said_if k (Some e) = said k e
 abbrev pub entry_at : List (List Entry) → ℕ → ℕ → Option Entry
 entry_at rows thread n = option_and_then (λ row. slice_get row n) (slice_get rows thread)
 
--- what the script says to a question
+-- the answer of the script to a question
 abbrev pub scripted : List (List Entry) → Question → Answer
 scripted rows q = said_if q.kind (entry_at rows q.thread q.number)

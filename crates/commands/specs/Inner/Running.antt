@@ -1,4 +1,4 @@
--- What a text that explains holds.
+-- The text that explains an error in the arguments.
 use Rattle.std.specs.Prelude.{◌≢◌, ℕ, Bool, List, Option, ◌⊎◌}
 use Rattle.clap.specs.declared.error.kind.ErrorKind.{ErrorKind}
 use Rattle.clap.specs.declared.error.kind.ErrorKind.TheVariants as kind
