@@ -394,10 +394,10 @@ run at the same time.
 With `--local` or `--weak-empty` the run is judged under that condition, as by
 `check`.
 
-With `--initial K` the K values 274877906944, 274877906945, .. are enqueued
-before any worker starts, and the text of the history is of version 2. If the
-queue has no room for one of them, `FAULT Preload PLACE` says for which, counted
-from 0.
+With `--initial K` the queue is given the values 274877906944, 274877906945, ..
+before any worker starts, K of them, and the text of the history is of version
+2. Where the queue has no room for one of them, `FAULT Preload PLACE` says for
+which, counted from 0.
 
 Queues: proved, proved-two-lock and proved-lock-free keep the order, as is
 proved; locked, two-lock, array and seg are made to keep it; lifo, doubling,

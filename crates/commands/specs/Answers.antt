@@ -50,7 +50,7 @@ pub data Reply : Type 0 where
   refused_size : Reply
   -- the verdict has a linearization for each producer, so there is no single one to draw
   refused_orders : Reply
-  -- the arguments are refused: no queue has this name, or there are too many operations
+  -- the words are refused: no queue has this name, or there are too many operations
   refused_queue : Reply
   refused_limit : Reply
   -- a read failed, memory ran out, or a run gave no history

@@ -11,8 +11,7 @@ ghost use Rattle.command_words.specs.Options.{settings_of, IsWithinRanges};
 ghost use Rattle.commands.specs.Answers.{ShowsNoViolation};
 ghost use Rattle.commands.specs.Judging.{AnswersOrNoMemory};
 ghost use Rattle.commands.specs.Outcomes.{answer_of, NamesPlaces};
-ghost use Rattle.commands.specs.Stressing.{IsFirstNamed, IsProvedName, IsShownRun, RunsOrFails, Stresses};
-ghost use Rattle.commands.specs.Stressing.{StressesQueue, StressesUnshelved, first_values, run_version};
+ghost use Rattle.commands.specs.Stressing.{IsFirstNamed, IsProvedName, IsShownRun, RunsOrFails, Stresses, StressesQueue, StressesUnshelved, first_values, run_version};
 
 use crate::histories::PIECES;
 use crate::judging::decide_under;
@@ -165,8 +164,7 @@ fn stress_proved<'a, R: Threads + Wait + Sync>(
 fn plan_of<'a>(alloc: Global, options: &StressOptions<'a>) -> Result<(Plan, Vec<u64>), AllocError>
     requires ranges { IsWithinRanges (settings_of options.now) }
     requires few { options.now.threads * options.now.operations ≤ MAX_OPERATIONS }
-    ensures seeded { IfOk result
-        (λ made. IsSeeded options.now.seed options.now.threads options.now.operations options.now.percent made.0) }
+    ensures seeded { IfOk result (λ made. IsSeeded options.now.seed options.now.threads options.now.operations options.now.percent made.0) }
     ensures first { IfOk result (λ made. made.1.items ≡ first_values options.now.initial) }
 {
     let plan = Plan::from_seed(

@@ -27,7 +27,8 @@ window_of first arrivals departures o = record {
 -- the windows of the failed enqueues
 abbrev pub windows_of : ℕ → List ℕ → List ℕ → List Operation → List Window
 windows_of first arrivals departures operations =
-    filter_map (λ o. if is_failed_enqueue o.kind then Some (window_of first arrivals departures o) else None) operations
+    filter_map
+    (λ o. if is_failed_enqueue o.kind then Some (window_of first arrivals departures o) else None) operations
 
 -- the number of heights above this one
 abbrev pub count_above : ℕ → List ℕ → ℕ
