@@ -1,2 +1,2 @@
--- Relations that serve the contracts of private functions: no public promise names one.
+-- Relations that only contracts of private functions name.
 pub mod Shown

@@ -238,7 +238,7 @@ pending_lines takes_cut input text (inr (allowed, is)) = (is.initial, by_calls t
     by_calls None h = h.right
     by_calls (Some n) h = h.1.right
 
--- what was read, where a completion is written
+-- the text that was read, if a completion is the answer
 record IsCompleted (takes_cut : Bool) (input : Ahead) (to : HistoryText) : Type 0 where
   text : PendingText
   input_of : IsPendingOf takes_cut input text
@@ -287,7 +287,7 @@ written_completion takes_cut input to is =
       whole,
     )
 
--- what `complete` writes is the text of a complete history
+-- the answer of `complete` is the text of a complete history
 pub completed_is_history : (takes_cut : Bool) → CompletedIsHistory takes_cut
 completed_is_history takes_cut bytes to answers =
     let is = completion_read takes_cut (input_of bytes) to answers in

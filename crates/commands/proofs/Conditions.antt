@@ -65,7 +65,7 @@ module _ (history : HistoryView) (complete : IsCompleteFrom history.initial hist
       subst (λ v. IsTrueBy true is_weak whole (claim_on whole v)) (sym decided.2)
       (local_evidence_is_a_true_claim (emptiness_if is_weak) whole decided.0 decided.1)
 
-  -- what a verdict under a condition claims is evidence
+  -- the claim of a verdict under a condition is evidence
   pub true_under : (condition : Condition) (verdict : Verdict) → IsDecidedUnder condition history verdict
       → IsTrueUnder condition history (claim_on whole verdict)
   true_under condition = true_by condition.is_local condition.is_weakly_empty

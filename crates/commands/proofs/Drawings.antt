@@ -34,7 +34,7 @@ one_drawn : (options : DrawOptions) (added : Option ℕ) (claim : ClaimOnText) (
     → DrawsSound options added claim b → a ≡ b
 one_drawn options added claim a b = one_by_whether (one_by_whether (one_by_whether same same) same) same
 
--- what is answered of a complete history with the claim of its verdict is answered of it with this claim of it
+-- the answer to a complete history with the claim of its verdict is the answer with this claim of its verdict
 with_verdict : (options : DrawOptions) (added : Option ℕ) (text : HistoryText) (claimed : Claimed) (a : Reply) → length text.initial ≤ MAX_INITIAL
     → IsSound (said_by text) → IsVerdictClaim (strict options.condition) (said_by text) claimed → DrawsDecided options added text a
     → DrawsSound options added (claim_on text claimed) a
@@ -87,7 +87,7 @@ one_alone options text None a b has =
     one_part options.condition.is_weakly_empty (history_in text) (DrawsDecided options None) a b few complete
     (λ t few_in sound. one_decided options None t a b few_in sound))
 
--- what is drawn is drawn in one way
+-- an input has one picture
 one_picture : (options : DrawOptions) (input : Ahead) (read : Drawable) (a b : Reply) → IsDrawableOf input read → Draws options read a
     → Draws options read b → a ≡ b
 one_picture options input (alone text) a b is = one_alone options text text.open_calls a b is.0
@@ -130,7 +130,7 @@ drawn_as_checked options plain =
 
 -- ---- what is drawn under a condition
 
--- what is answered of the part that is drawn is answered of the whole
+-- an answer to the part that is drawn is an answer to the whole
 pub drawn_part : (is_weak : Bool) (text : HistoryText) (part : HistoryView) (OfText : HistoryText → Reply → Type 0) (answer : Reply)
     → (is_weak ≡ false → part ≡ said_by text) → (is_weak ≡ true → contents_of part ≡ without_empties (contents_of (said_by text)))
     → (is_weak ≡ true → ArePartOf text.events part.events) → IsSound part → OfText (said_in text.version part) answer → DrawsPart is_weak text OfText answer

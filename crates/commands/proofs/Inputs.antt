@@ -34,11 +34,11 @@ use Rattle.std.proofs.Common.{Bool, false, true}
 
 -- ---- what was taken of the input
 
--- what a reader has left at first
+-- the input that a reader has left at first
 abbrev pub start : Known → Left
 start known = record { front = []; behind = known }
 
--- what holds of some input that is left at first holds of one that the source may give
+-- a fact about some input that is left at first is one about some input that the source may give
 pub from_start : (known : Known) (P : Ahead → Type 0) → OfLeft (start known) P → OfInput known P
 from_start known P found = record {
   input = found.input;
@@ -290,7 +290,7 @@ one_drawable_of input (alone x) (with_claim y) is_x is_y = absurd (alone_without
 one_drawable_of input (with_claim x) (alone y) is_x is_y = absurd (alone_without_claim input y x is_y is_x)
 one_drawable_of input (with_claim x) (with_claim y) is_x is_y = ap (λ c. with_claim c) (one_claim_of input x y is_x is_y)
 
--- what comes after a text has one fault
+-- the input after a text has one fault
 one_behind : (calls : Option ℕ) (lines : ℕ) (ending : Ending) (rest : List ℕ) (f g : TextFault) → FaultBehind calls lines ending rest f
     → FaultBehind calls lines ending rest g → f ≡ g
 one_behind (Some n) lines ending rest f g x y = one_at_end ending rest f g x y
@@ -410,7 +410,7 @@ drawable_verdict_fault known mid left text lines fault counts has before taken m
 
 module _ {A : Type 0} {IsInputOf : Ahead → A → Type 0} {IsFaultOf : Ahead → TextFault → Type 0} (says : SaysOneThing IsInputOf IsFaultOf)
     (OfValue : A → Reply → Type 0) where
-  -- what is answered of an input is answered of the value that it says
+  -- the answer to an input is that to the value whose text it is
   pub answered_of : (input : Ahead) (x : A) (a : Reply) → IsInputOf input x → AnswersFor IsInputOf IsFaultOf OfValue input a → AnswersOrNoMemory OfValue x a
   answered_of input x a is (inl read) = subst (λ v. AnswersOrNoMemory OfValue v a) (says.one_value input read.value x read.input_of is) read.answered
   answered_of input x a is (inr faulty) = grind (arith, is_memory)

@@ -91,7 +91,7 @@ use Rattle.text_lines.specs.declared.fault.TextFault.TheVariants as text
 
 -- ---- schedules
 
--- what is decided of what a done machine collected
+-- the answer to a schedule that is done is the verdict on the collected history
 pub played_found : (setting : Setting) (schedule : List Attempt) (rejected : List Rejection) → rejected ≡ rejections setting schedule
     → (lists : List (List Event)) (history : HistoryView) (verdict : Verdict) → IsDone setting schedule × (lists ≡ collected_lists setting schedule)
     → IsMerged lists history.events → IsCompleteFrom history.initial history.events → history.initial ≡ setting.initial
@@ -101,7 +101,7 @@ played_found setting schedule rejected is lists history verdict ended merged com
 
 module _ (setting : Setting) (schedule : List Attempt) (few : setting.threads ≤ MAX_THREADS) (lists : List (List Event))
     (ended : IsDone setting schedule × (lists ≡ collected_lists setting schedule)) where
-  -- what a done schedule collects merges to a complete history
+  -- the lists of a schedule that is done merge to a complete history
   pub merges_to_complete : (merged : List Event) → IsMerged lists merged → IsCompleteHistory merged
   merges_to_complete merged is =
       merged_is_complete (collected_lists setting schedule) merged (collected_is_fit setting schedule few ended.0)
@@ -120,7 +120,7 @@ claims_yes : (initial : List ℕ) (operations : List Operation) (verdict : Verdi
 claims_yes initial operations (Yes places) legal exact = (operations_at operations places, refl)
 claims_yes initial operations (No violation) legal exact = absurd (exact legal)
 
--- what is answered of an honest schedule that is done
+-- the answer to an honest schedule that is done is `YES`
 pub honest_gets_a_yes : (setting : Setting) (schedule : List Attempt) (answer : Reply) → setting.threads ≤ MAX_THREADS → IsHonest setting schedule
     → IsDone setting schedule → SimulatesIn setting schedule answer
     → (events : List Event) × (order : List Operation) × (answer ≡ played (rejections setting schedule) events (claim.Yes order))
@@ -201,7 +201,7 @@ module _ {X : Type 0} (name_of : X → List ℕ) (name : List ℕ) (xs : List X)
     others = passed;
   }
 
-  -- where the next has another name, none of one more has it
+  -- if the next has another name, no one up to it has the name
   pub passed_more : (name_of x ≢ name) → All (λ y. name_of y ≢ name) (take (i + 1) xs)
   passed_more other = rw (take_more xs i x inside, ← is) (All-push (λ y. name_of y ≢ name) (take i xs) x passed other)
 
@@ -259,7 +259,7 @@ one_of_history history a b one (inl x) (inr y) = absurd (not_both history a x y.
 one_of_history history a b one (inr x) (inl y) = absurd (not_both history b y x.0)
 one_of_history history a b one (inr x) (inr y) = one x.0 x.1 y.1
 
--- what follows whether P holds or not follows
+-- a fact that follows if P holds, and also if it doesn't
 pub one_by_whether : {P V W X Y Z : Type 0} → (V → X → Z) → (W → Y → Z) → (P × V) ⊎ ((¬ P) × W) → (P × X) ⊎ ((¬ P) × Y) → Z
 one_by_whether first second (inl x) (inl y) = first x.1 y.1
 one_by_whether first second (inl x) (inr y) = absurd (y.0 x.0)
@@ -271,7 +271,7 @@ pub by_validity : {P : Type 0} (valid : Bool) → IsTrue valid ↔ P → (P × (
 by_validity true is = inl (is.0 refl, refl)
 by_validity false is = inr ((λ p. let no = is.1 p in cc), refl)
 
--- what is equal to one thing is equal
+-- things that are equal to one thing are equal
 pub same : {A : Type 0} {x y z : A} → x ≡ z → y ≡ z → x ≡ y
 same p q = p ∙ sym q
 
@@ -323,7 +323,7 @@ pub faults_answered : (P : HistoryText → Reply → Type 0) (known : Known) (an
     → OfInput known (λ a. AnswersFor IsHistoryOf IsFaultOfHistoryInput (λ text. FaultOr (said_by text) (P text)) a answer)
 faults_answered P known answer found = let is = found.is_so in record { input = found.input; may = found.may; is_so = grind (arith, ⊎_map, faulty_or) }
 
--- what holds of every input holds of some
+-- a fact about every input is one about some input that the source may give
 pub any_input : (known : Known) (P : Ahead → Type 0) → ((a : Ahead) → P a) → OfInput known P
 any_input known P all = let some = some_input known in record { input = some.0; may = some.1; is_so = all some.0 }
 
@@ -339,7 +339,7 @@ nothing_kept : (kept : List ℕ) (more : Bool) → (not (length kept == 0) || mo
 nothing_kept [] more none = refl
 nothing_kept (x ∷ kept) more none = grind (arith, nat_tests, none)
 
--- what is printed to a buffer is printed to its writer
+-- text that is printed to a buffer is printed to its writer
 pub behind : (Printed : Option (List ℕ) → Option (List ℕ) → Bool → Type 0) (old new : Option (List ℕ)) (kept : List ℕ) (refused more : Bool)
     → (refused ≡ false → (not (length kept == 0) || more) ≡ false) → Printed (append_known old []) (append_known new kept) refused
     → Behind (λ n r. Printed old n r) new
@@ -350,7 +350,7 @@ behind Printed old new kept refused more passed_on printed = record {
   printed = subst (λ o. Printed o (append_known new kept) refused) (keeps_nothing old) printed;
 }
 
--- the same of an answer
+-- an answer that is printed to a buffer is printed to its writer
 pub behind_one : (quiet : Bool) (IsAnswer : Reply → Type 0) (result : ℕ) (old new : Option (List ℕ)) (kept : List ℕ) (refused more : Bool)
     → (refused ≡ false → (not (length kept == 0) || more) ≡ false)
     → PrintsOneOf quiet IsAnswer (append_known old []) (append_known new kept) refused result
@@ -495,7 +495,7 @@ pub record IsWrittenUnder (condition : Condition) (t : HistoryText) (claimed : C
 abbrev pub IsWritten : HistoryText → Claimed → Type 0
 IsWritten t claimed = IsWrittenUnder linearizability t claimed
 
--- what is judged is the verdict on the history of the input
+-- the judged claim is that of the verdict on the history of the input
 pub judged_is_written : (condition : Condition) (input : Ahead) (claimed : Claimed)
     → AnswersFor IsHistoryOf IsFaultOfHistoryInput (Judges condition) input (judged claimed)
     → (t : HistoryText) × IsHistoryOf input t × IsWrittenUnder condition t claimed
@@ -529,7 +529,7 @@ part_is_text text part has initial events = record {
   events = rw events.1 (part_has_text events.0 text.events has.events);
 }
 
--- what is shown of a history is a part of it, with its verdict
+-- the history that is shown is a part of the text's, with its own verdict
 shrunk_is_written : (text small : HistoryText) (claimed : Claimed) → HasText text → IsShrunk text (shown small claimed) → IsWritten small claimed
 shrunk_is_written text small claimed has is =
     let said = said_in text.version is.small in
@@ -564,7 +564,7 @@ shown_is_written condition input small claimed shrinks =
 pub claim_is_written : (t : HistoryText) (claimed : Claimed) → IsWritten t claimed → HasVerdictText claimed
 claim_is_written t claimed is = grind (arith, few_values, verdict_has_few_lines, claim_has_text)
 
--- what is answered of a claim that is true
+-- the answer to a claim that is evidence is `VALID`
 true_is_valid : (condition : Condition) (claim : ClaimOnText) (answer : Reply) → IsSound (said_by claim.text) → IsEvident condition claim
     → AnswersOrNoMemory (Verifies condition) claim answer → IsValidOrNoMemory answer
 true_is_valid condition claim answer complete holds (inl (inl faulty)) = absurd (not_both (said_by claim.text) answer faulty complete)
@@ -609,7 +609,7 @@ refuted_is_valid condition bytes kind lines answer has checked verifies =
     evidence_is_valid linearizability bytes is.0 (claim.No kind lines) answer is.1 is.2.complete has
     (no_is_of_the_whole condition (said_by is.0) kind lines evident) verifies
 
--- what `shrink` writes is valid
+-- the texts of `shrink` are valid
 pub shrunk_is_valid : (condition : Condition) → ShrunkIsValid condition
 shrunk_is_valid condition bytes small claimed answer shrinks verifies =
     let is = shown_is_written condition (input_of bytes) small claimed shrinks in
@@ -632,7 +632,7 @@ shrunk_is_checked condition bytes small claimed answer shrinks =
 
 -- ---- runs
 
--- what `stress` shows of a run is its history with its verdict
+-- the texts of `stress` are the history of a run and its verdict
 run_is_written : (condition : Condition) (count : ℕ) (lists : List (List Event)) (text : HistoryText) (claimed : Claimed) → HasText text
     → IsShownRun condition count lists (shown text claimed) → IsWrittenUnder condition text claimed
 run_is_written condition count lists text claimed has is =
@@ -664,7 +664,7 @@ stressed_is_valid count lists text claimed answer has is =
 abbrev plain : List Event → HistoryText
 plain events = said_in One (record { initial = []; events = events })
 
--- what `sim` shows of a schedule is its history with its verdict
+-- the texts of `sim` are the history of a schedule and its verdict
 simulated_is_written : (input : Ahead) (rejected : List Rejection) (events : List Event) (claimed : Claimed) → HasHistoryText events
     → AnswersOf sim input (played rejected events claimed) → IsWritten (plain events) claimed
 simulated_is_written input rejected events claimed has (inl read) = of_answer read.answered
@@ -699,7 +699,7 @@ simulated_is_valid bytes rejected events claimed answer has simulates =
 
 -- ---- a text and its conversion are answered alike
 
--- what is converted is what the input says, in version 2
+-- the converted text is that of the input's history, in version 2
 conversion : (bytes : List ℕ) (to : HistoryText) → AnswersOf convert (input_of bytes) (converted to)
     → (text : HistoryText) × IsHistoryOf (input_of bytes) text × (to ≡ in_version_2 text)
 conversion bytes to answers = grind (arith, found_of_history)
@@ -736,11 +736,11 @@ converted_alike P one bytes to a b answers =
 pub converted_is_checked : (condition : Condition) → ConvertedIsChecked condition
 converted_is_checked condition = converted_alike (Judges condition) (one_judgement condition)
 
--- and so does `stats`
+-- `stats` answers a text and its conversion alike
 pub converted_is_counted : (overtakes : Bool) → ConvertedIsCounted overtakes
 converted_is_counted overtakes = converted_alike (Counts overtakes) (λ text a b has. one_counting overtakes text.version Two (said_by text) a b)
 
--- and so does `verify`
+-- `verify` answers a claim after a text and after its conversion alike
 pub converted_is_verified : (condition : Condition) → ConvertedIsVerified condition
 converted_is_verified condition bytes to claimed a b has answers =
     let is = conversion bytes to answers in

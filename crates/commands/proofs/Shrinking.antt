@@ -20,7 +20,7 @@ module _ (text : HistoryText) (part : HistoryView) (answer : Reply) (few : lengt
   few_left : ArePartOf text.initial part.initial → length shrunk.small.initial ≤ MAX_INITIAL
   few_left initial = few_of_part part.initial shrunk.small.initial shrunk.initial (few_of_part text.initial part.initial initial few)
 
-  -- what is left without the empty dequeues
+  -- the part without the empty dequeues
   pub weak_part : contents_of part ≡ without_empties whole → IsShrunkPart (record { is_local = false; is_weakly_empty = true }) text answer
   weak_part is =
       let initial : ArePartOf text.initial part.initial = ((λ v. true), ap (λ (c : Contents). c.initial) is) in

@@ -377,7 +377,7 @@ at_seam : (seen : List Event) (e : Event) (left : List Event) → slice_get (see
 at_seam [] e left = refl
 at_seam (x ∷ seen) e left = at_seam seen e left
 
--- as many events were seen as the place says, and none of them has the property
+-- the events before the place were seen, and none of them has the property
 pub record Searched (all left : List Event) (sought : Sought) (place : ℕ) : Type 0 where
   pub seen : List Event
   pub parts : seen ++ left ≡ all

@@ -1,3 +1,3 @@
--- Relations that serve the contracts of private functions: no public promise names one.
+-- Relations that only contracts of private functions name.
 pub mod Lines
 pub mod Digits

@@ -7,7 +7,7 @@ use Rattle.verdicts.specs.Selection.{contents_of}
 use Rattle.claims.specs.declared.claimed.Claimed.{Claimed}
 use Rattle.commands.proofs.judging.verify_under.Goals as goal
 
--- what is so with these flags is so with flags that are equal to them
+-- a fact with these flags is one with equal flags
 with_flags : (valid local weak is_local is_weak : Bool) (whole : Contents) (claimed : Claimed) → local ≡ is_local → weak ≡ is_weak
     → IsTrue valid ↔ IsTrueBy is_local is_weak whole claimed → IsTrue valid ↔ IsTrueBy local weak whole claimed
 with_flags valid local weak is_local is_weak whole claimed same also is =

@@ -3,7 +3,7 @@ use Rattle.std.specs.Prelude.{IfOk, string_bytes}
 use Rattle.std.specs.declared.result.Result.{Result}
 use Rattle.messages.proofs.sentences.sentence.Goals as goal
 
--- what is known of a result is known in a weaker form
+-- a fact about a result, in a weaker form
 weaker : {T E : Type 0} (P Q : T → Type 0) (result : Result T E) → ((made : T) → P made → Q made) → IfOk result P
     → IfOk result Q
 weaker P Q (Ok made) follows known = follows made known
