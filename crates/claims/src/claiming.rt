@@ -39,13 +39,10 @@ fn operations_at(
 ) -> Result<Vec<Operation>, AllocError>
     ensures { IfOk result (λ listed. listed.items ≡ operations_at operations.now places.now) }
 {
-    let mut listed = Vec::new(alloc);
-    for place in places {
-        if let Some(operation) = operations.get(*place) {
-            listed.push(operation)?;
-        }
-    }
-    Ok(listed)
+    places
+        .iter()
+        .filter_map(|place| operations.get(*place))
+        .collect(alloc)
 }
 
 /// Returns the lines of a violation of this history, in the order in which they are shown.
@@ -76,13 +73,10 @@ fn lines_at(
 ) -> Result<Vec<ClaimLine>, AllocError>
     ensures { IfOk result (λ listed. listed.items ≡ lines_at initial.now operations.now places.now) }
 {
-    let mut listed = Vec::new(alloc);
-    for place in places {
-        if let Some(line) = place.line(initial, operations) {
-            listed.push(line)?;
-        }
-    }
-    Ok(listed)
+    places
+        .iter()
+        .filter_map(|place| place.line(initial, operations))
+        .collect(alloc)
 }
 
 /// Returns the kind of a violation.
