@@ -161,6 +161,7 @@ fn message_of<'b, 'a, S>(
         reads: reads_of(name_of(task)).unwrap_or(Reads::History),
         front: ended.kept.front(),
         is_whole: ended.kept.is_whole(),
+        back: ended.kept.back(),
     };
     let complaint = complaint_of(fault, task, given, names.as_slice());
     sentence(alloc, &complaint)

@@ -420,12 +420,20 @@ met_not_pending initial events ticket (inl (inl memory)) = cc
 met_not_pending initial events ticket (inl (inr (j, is, twice))) = cc
 met_not_pending initial events ticket (inr (i, found)) = let other = found.2.2 in grind arith
 
+-- the call that is pending before an event stays the same
+pending-append : (events later : List Event) (x : Event) (y : Placed) → Stands events y
+    → pending_call y.event.thread (take y.place events) ≡ Some x → pending_call y.event.thread (take y.place (events ++ later)) ≡ Some x
+pending-append events later x y at is = grind (arith, slice_get_within, take-append-le)
+
 -- events or values that contradict each other at a fault still do when more events are added
 clash-append : (initial : List ℕ) (events later : List Event) (found : Clash)
     → HasMetFault initial events (fault_of found)
     → IsClash initial events found → IsClash initial (events ++ later) found
 clash-append initial events later (clash.Tickets x y) met is = (stands-append events later x is.0, stands-append events later y is.1, is.2, is.3)
-clash-append initial events later (clash.Calls x y) met is = grind (arith, stands-append, slice_get_within, take-append-le)
+clash-append initial events later (clash.Calls x y) met is =
+    (stands-append events later x is.0, stands-append events later y is.1, pending-append events later x.event y is.1 is.2)
+clash-append initial events later (clash.Return x y) met is =
+    (stands-append events later x is.0, stands-append events later y is.1, pending-append events later x.event y is.1 is.2, is.3)
 clash-append initial events later (clash.Values x y) met is = grind (arith, stands-append, first_with-append)
 clash-append initial events later (clash.Initial place x) met is = (stands-append events later x is.0, is.1)
 clash-append initial events later (clash.Twice value i j) met is = is
@@ -472,6 +480,7 @@ kept_is_first initial events g known = of_kept g.clash known.clash
 not_memory : (found : Clash) → fault_of found ≢ Memory
 not_memory (clash.Tickets x y) = λ is. cc
 not_memory (clash.Calls x y) = λ is. cc
+not_memory (clash.Return x y) = λ is. cc
 not_memory (clash.Values x y) = λ is. cc
 not_memory (clash.Initial place x) = λ is. cc
 not_memory (clash.Twice value i j) = λ is. cc

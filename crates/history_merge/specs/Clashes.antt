@@ -1,14 +1,15 @@
 -- Events and values that contradict each other.
-use Rattle.std.specs.Prelude.{◌≡◌, ◌≢◌, ℕ, suc, ◌<◌, ◌≤◌, List, Option, Some, slice_get, take}
+use Rattle.std.specs.Prelude.{◌≡◌, ◌≢◌, ℕ, suc, ◌<◌, ◌≤◌, List, Option, None, Some, slice_get, take}
 use Rattle.event_records.specs.declared.event.Event.{Event}
 use Rattle.history_merge.specs.declared.clash.Clash.{Clash}
 use Rattle.history_merge.specs.declared.clash.Clash.TheVariants as clash
 use Rattle.history_merge.specs.declared.clash.Placed.{Placed}
 use Rattle.history_merge.specs.declared.fault.HistoryFault.{HistoryFault}
-use Rattle.history_merge.specs.declared.fault.HistoryFault.TheVariants.{TicketOrder, CallWhilePending, DuplicateValue}
-use Rattle.history_merge.specs.declared.fault.HistoryFault.TheVariants.{Pending, InitialTwice}
+use Rattle.history_merge.specs.declared.fault.HistoryFault.TheVariants.{TicketOrder, CallWhilePending, WrongReturn}
+use Rattle.history_merge.specs.declared.fault.HistoryFault.TheVariants.{DuplicateValue, Pending, InitialTwice}
 use Rattle.history_merge.specs.Complete.{called_value}
 use Rattle.history_merge.specs.Faults.{pending_call}
+use Rattle.history_merge.specs.Operations.{kind_of}
 
 -- the event is at its place
 abbrev pub Stands : List Event → Placed → Type 0
@@ -34,13 +35,15 @@ pub record AreEqualInitial (initial : List ℕ) (value i j : ℕ) : Type 0 where
   pub again : slice_get initial j ≡ Some value
 
 -- two events or initial values contradict each other: the ticket of an event isn't above that of the event before; a
--- call comes while a call of its thread is pending; two calls have one value; a call has an initial value; two
--- initial values are equal; or one event, a call, never returns
+-- call comes while a call of its thread is pending; a return is of another kind than its call; two calls have one value;
+-- a call has an initial value; two initial values are equal; or one event, a call, never returns
 abbrev pub IsClash : List ℕ → List Event → Clash → Type 0
 IsClash initial events (clash.Tickets x y) = Stands events x × Stands events y × (suc x.place ≡ y.place)
     × (y.event.ticket ≤ x.event.ticket)
 IsClash initial events (clash.Calls x y) = Stands events x × Stands events y
     × (pending_call y.event.thread (take y.place events) ≡ Some x.event)
+IsClash initial events (clash.Return x y) = Stands events x × Stands events y
+    × (pending_call y.event.thread (take y.place events) ≡ Some x.event) × (kind_of x.event.what y.event.what ≡ None)
 IsClash initial events (clash.Values x y) = Stands events x × Stands events y × AreFirstWith events x y
 IsClash initial events (clash.Initial place x) = Stands events x × EnqueuesInitial initial place x
 IsClash initial events (clash.Twice value i j) = AreEqualInitial initial value i j
@@ -50,6 +53,7 @@ IsClash initial events (clash.Pending x) = Stands events x × (pending_call x.ev
 abbrev pub fault_of : Clash → HistoryFault
 fault_of (clash.Tickets x y) = TicketOrder y.place
 fault_of (clash.Calls x y) = CallWhilePending y.place
+fault_of (clash.Return x y) = WrongReturn y.place
 fault_of (clash.Values x y) = DuplicateValue y.place
 fault_of (clash.Initial place x) = DuplicateValue x.place
 fault_of (clash.Twice value i j) = InitialTwice j

@@ -84,8 +84,8 @@ impl HistoryBuilder {
     }
 
     /// Returns the events or values that contradict each other at the first fault, if that is a `TicketOrder`,
-    /// `CallWhilePending`, `DuplicateValue`, `Pending` or `InitialTwice`, and memory didn't run out. [`Clash::fault`]
-    /// is that fault then. A ticket above [`event_records::MAX_TICKET`] contradicts no other event.
+    /// `CallWhilePending`, `WrongReturn`, `DuplicateValue`, `Pending` or `InitialTwice`, and memory didn't run out.
+    /// [`Clash::fault`] is that fault then. A ticket above [`event_records::MAX_TICKET`] contradicts no other event.
     ///
     /// Takes O(n) time if there is a fault, otherwise O(1).
     pub fn clash(&self) -> Option<Clash>

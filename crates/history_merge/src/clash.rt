@@ -11,6 +11,7 @@ use crate::called::called_value;
 use crate::events::Events;
 use crate::fault::HistoryFault;
 use crate::forming::Forming;
+use crate::matching::kind_of;
 use event_records::Event;
 
 /// An event, and its place among all, from 0.
@@ -27,6 +28,8 @@ pub enum Clash {
     Tickets(Placed, Placed),
     /// The second event is a call of a thread whose call, the first event, is still pending.
     Calls(Placed, Placed),
+    /// The second event is a return, and not of the kind of the first event, the pending call of its thread.
+    Return(Placed, Placed),
     /// Both events call to enqueue the same value, and no event before the first does.
     Values(Placed, Placed),
     /// The event calls to enqueue the initial value at this place.
@@ -45,6 +48,7 @@ impl Clash {
         match self {
             Clash::Tickets(_, later) => HistoryFault::TicketOrder(later.place),
             Clash::Calls(_, later) => HistoryFault::CallWhilePending(later.place),
+            Clash::Return(_, later) => HistoryFault::WrongReturn(later.place),
             Clash::Values(_, later) | Clash::Initial(_, later) => {
                 HistoryFault::DuplicateValue(later.place)
             }
@@ -122,6 +126,12 @@ pub(crate) fn clash_of(fault: HistoryFault, later: Placed, forming: &Forming) ->
             let earlier = first_event(forming, Sought::Whole(call))?;
             Some(Clash::Calls(earlier, later))
         }
+        HistoryFault::WrongReturn(_) => {
+            let call = forming.call_of(later.event.thread)?;
+            let earlier = first_event(forming, Sought::Whole(call))?;
+            let is_none = kind_of(earlier.event.what, later.event.what).is_none();
+            is_none.then_some(Clash::Return(earlier, later))
+        }
         HistoryFault::DuplicateValue(_) => {
             let value = called_value(later.event.what)?;
             if let Some(place) = first_place(forming.timeline().initial(), value) {
@@ -156,5 +166,9 @@ pub(crate) fn clash_of_initial(fault: Option<HistoryFault>, initial: &[u64]) -> 
     };
     let value = *initial.get(later)?;
     let earlier = first_place(initial, value)?;
-    (earlier < later).then_some(Clash::Twice(value, earlier, later))
+    if earlier < later {
+        Some(Clash::Twice(value, earlier, later))
+    } else {
+        None
+    }
 }

@@ -27,6 +27,8 @@ pub struct Given<'a> {
     pub front: &'a [u8],
     /// True if the front is all that was read.
     pub is_whole: bool,
+    /// The last bytes that were read, if the front isn't all; the first line of them may be cut.
+    pub back: &'a [u8],
 }
 
 /// The reason why a command found nothing, or wrote nothing.

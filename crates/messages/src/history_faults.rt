@@ -1,6 +1,6 @@
 //! Messages about events that are no complete history.
 use crate::complaints::Given;
-use crate::input::{field_of, line_of, lines_before};
+use crate::input::{line_of, lines_before};
 use crate::message::Blank::{Number, Shown, Words};
 use crate::message::{Blank, Message};
 use event_records::What;
@@ -103,6 +103,40 @@ fn calls_message(
     ];
     let sentence =
         "line {}: thread {} calls at ticket {}, and its call at ticket {} in line {} hasn't returned";
+    Message::of(alloc, sentence, &blanks, "")
+}
+
+/// Builds the message for a return from another kind of call than the thread made.
+fn return_message(
+    alloc: Global,
+    given: &Given<'_>,
+    call: &Placed,
+    later: &Placed,
+) -> Result<Message, AllocError> {
+    let (number, called) = (
+        event_line(given, later.place),
+        event_line(given, call.place),
+    );
+    if let (Some(line), Some(call_line)) = (line_of(given, number), line_of(given, called)) {
+        let blanks = [
+            Number(number),
+            Shown(line),
+            Number(called),
+            Shown(call_line),
+        ];
+        let sentence =
+            "line {}: '{}' returns from another kind of call than its thread made in line {}: '{}'";
+        return Message::of(alloc, sentence, &blanks, "");
+    }
+    let blanks = [
+        Number(number),
+        Number(u64::from(later.event.thread)),
+        Number(later.event.ticket),
+        Number(call.event.ticket),
+        Number(called),
+    ];
+    let sentence =
+        "line {}: thread {} returns at ticket {} from another kind of call than it made at ticket {} in line {}";
     Message::of(alloc, sentence, &blanks, "")
 }
 
@@ -209,50 +243,13 @@ fn clash_message(alloc: Global, clash: &Clash, given: &Given<'_>) -> Result<Mess
     match clash {
         Clash::Tickets(before, later) => return order_message(alloc, given, before, later),
         Clash::Calls(pending, later) => return calls_message(alloc, given, pending, later),
+        Clash::Return(call, later) => return return_message(alloc, given, call, later),
         Clash::Values(first, later) => return values_message(alloc, given, first, later),
         Clash::Initial(initial, call) => return initial_message(alloc, given, *initial, call),
         Clash::Twice(value, earlier, later) => {
             return twice_message(alloc, *value, *earlier, *later);
         }
         Clash::Pending(call) => return pending_message(alloc, given, call),
-    }
-}
-
-/// Returns whether a line is a call of the thread that this field names.
-fn is_call_of(line: &[u8], thread: &[u8]) -> bool {
-    field_of(line, 1) == Some(thread)
-        && field_of(line, 2).is_some_and(|what| what.starts_with(b"call-"))
-}
-
-/// Returns the number of the last line before this one that is a call of the same thread, if it is kept.
-fn call_before(given: &Given<'_>, number: u64) -> Option<u64> {
-    let thread = field_of(line_of(given, number)?, 1)?;
-    let mut found = None;
-    for (place, line) in given.front.split(|byte| *byte == b'\n').enumerate() {
-        let here = (place as u64).saturating_add(1);
-        if here < number && is_call_of(line, thread) {
-            found = Some(here);
-        }
-    }
-    found
-}
-
-/// Builds the message for a return from another kind of call than the thread made.
-fn return_message(alloc: Global, given: &Given<'_>, place: usize) -> Result<Message, AllocError> {
-    let number = event_line(given, place);
-    let line = line_of(given, number).unwrap_or(b"");
-    match call_before(given, number) {
-        Some(call) => {
-            let called = line_of(given, call).unwrap_or(b"");
-            let blanks = [Number(number), Shown(line), Number(call), Shown(called)];
-            let sentence =
-                "line {}: '{}' returns from another kind of call than its thread made in line {}: '{}'";
-            Message::of(alloc, sentence, &blanks, "")
-        }
-        None => {
-            let what = "a thread returns from another kind of call than it made";
-            event_message(alloc, given, place, what)
-        }
     }
 }
 
@@ -267,7 +264,12 @@ fn fault_message(
         HistoryFault::ReturnWithoutCall(place) => {
             (place, "a thread returns, and has no call that waits for it")
         }
-        HistoryFault::WrongReturn(place) => return return_message(alloc, given, place),
+        HistoryFault::WrongReturn(place) => {
+            (
+                place,
+                "a thread returns from another kind of call than it made",
+            )
+        }
         HistoryFault::Memory => return Message::of(alloc, "memory ran out", &[], ""),
         _ => {
             return Message::of(

@@ -1,4 +1,5 @@
 //! The numbers of a line: their names and ranges.
+use crate::complaints::Reads;
 use crate::input::{Part, field_of, number_of};
 use event_records::{MAX_INITIAL, MAX_RING, MAX_THREAD, MAX_THREADS, MAX_TICKET, MIN_RING};
 
@@ -100,6 +101,40 @@ pub(crate) fn first_wrong(part: Part, line: &[u8]) -> Option<(Ranged, &[u8])> {
             && is_wrong(ranged, field)
         {
             return Some((ranged, field));
+        }
+    }
+    None
+}
+
+/// Returns the part that a line after the first ones is, by its words.
+fn part_by_words(reads: Reads, line: &[u8]) -> Part {
+    if line.starts_with(b"end ") {
+        return Part::End;
+    }
+    if line.starts_with(b"open ") {
+        return Part::Open;
+    }
+    match field_of(line, 2) {
+        _ if reads == Reads::Schedule => Part::Step,
+        Some(what) if what.starts_with(b"call-") || what.starts_with(b"ret-") => Part::Event,
+        _ => Part::Operation,
+    }
+}
+
+/// Returns whether a number field of a line has a fault.
+fn is_faulty(part: Part, line: &[u8]) -> bool {
+    match part {
+        Part::End => field_of(line, 1).and_then(number_of).is_none(),
+        _ => first_wrong(part, line).is_some(),
+    }
+}
+
+/// Returns the first line that has a fault in a number field, and its part. The first line may be cut, and isn't looked at.
+pub(crate) fn first_faulty<'a>(reads: Reads, lines: &'a [u8]) -> Option<(Part, &'a [u8])> {
+    for line in lines.split(|byte| *byte == b'\n').skip(1) {
+        let part = part_by_words(reads, line);
+        if is_faulty(part, line) {
+            return Some((part, line));
         }
     }
     None

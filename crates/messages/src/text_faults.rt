@@ -5,7 +5,7 @@ use crate::history_faults::BY_CLOCK;
 use crate::input::{Part, counted, counts_events, end_line, line_of, open_line, part_of};
 use crate::message::Blank::{Number, Shown, Words};
 use crate::message::Message;
-use crate::ranges::{Ranged, first_wrong};
+use crate::ranges::{Ranged, first_faulty, first_wrong};
 use event_records::{MAX_EVENTS, MAX_TICKET};
 use std::alloc::{AllocError, Global};
 use text_lines::{LONGEST_LINE, TextFault};
@@ -221,13 +221,22 @@ fn wrong_name(part: Part, reads: Reads, line: &[u8]) -> &'static str {
     }
 }
 
+/// Returns a line whose numbers have a fault, and its part: the line of this number if it is kept, or else the first of the
+/// last lines that has such a fault, since the lines before it have none.
+fn numbered_line<'a>(given: &Given<'a>, number: u64) -> Option<(Part, &'a [u8])> {
+    match line_of(given, number) {
+        Some(line) => Some((part_of(given, number), line)),
+        None => first_faulty(given.reads, given.back),
+    }
+}
+
 /// Builds the message for a field that isn't a number.
 fn number_message(alloc: Global, number: u64, given: &Given<'_>) -> Result<Message, AllocError> {
-    let Some(line) = line_of(given, number) else {
+    let Some((part, line)) = numbered_line(given, number) else {
         let sentence = "line {}: a field that should be a number isn't";
         return Message::of(alloc, sentence, &[Number(number)], "");
     };
-    let name = wrong_name(part_of(given, number), given.reads, line);
+    let name = wrong_name(part, given.reads, line);
     Message::of(
         alloc,
         "line {}: {} has to be a number in digits, without a 0 before others: '{}'",
@@ -265,10 +274,7 @@ fn range_message(
 
 /// Builds the message for a number out of its range, or for one line too many.
 fn limit_message(alloc: Global, number: u64, given: &Given<'_>) -> Result<Message, AllocError> {
-    let wrong = match line_of(given, number) {
-        Some(line) => first_wrong(part_of(given, number), line),
-        None => None,
-    };
+    let wrong = numbered_line(given, number).and_then(|(part, line)| first_wrong(part, line));
     match wrong {
         Some((ranged, field)) => range_message(alloc, number, ranged, field),
         None => Message::of(
