@@ -18,8 +18,10 @@ use Rattle.commands.specs.declared.outcome.Report.TheVariants.{Completed, Counte
 use Rattle.commands.specs.declared.outcome.Report.TheVariants.{Drawn, Overtaken}
 use Rattle.commands.specs.declared.outcome.Fault.{Fault}
 use Rattle.commands.specs.declared.outcome.Fault.TheVariants.{Text, History, Size, Orders, Queue, Limit, Memory, Run}
-use Rattle.commands.specs.Answers.{Reply, judged, shown, left_open, played, verified, converted, counted, overtaken, drawn, refused_orders, refused_size}
-use Rattle.commands.specs.Answers.{refused_queue, refused_limit, memory_fault, run_fault, answer_of_text_fault, answer_of_history_fault}
+use Rattle.commands.specs.Answers.{Reply, judged, shown, left_open, played, verified, converted, counted, overtaken}
+use Rattle.commands.specs.Answers.{drawn, refused_orders, refused_size}
+use Rattle.commands.specs.Answers.{refused_queue, refused_limit, memory_fault, run_fault, answer_of_text_fault}
+use Rattle.commands.specs.Answers.{answer_of_history_fault}
 
 -- the answer that is printed for what was found: for a verdict its claim, for the rest the same
 abbrev pub answer_of_report : Report → Reply

@@ -54,7 +54,8 @@ pub record IsShownRun (condition : Condition) (count : ℕ) (lists : List (List 
   pub answered : IsOfVerdictUnder condition (run_history count events)
       (shown (said_in (run_version count) (run_history count events))) answer
 
--- a run of the seed's plan on a queue that may answer so and took the first values: its lists by ticket, with their verdict
+-- a run of the seed's plan on a queue that may answer so and took the first values: its lists by ticket, with their
+-- verdict
 pub record IsRecordedRun (may : Question → Answer → Type 0) (may_preload : ℕ → ℕ → Bool → Type 0) (settings : Settings) (answer : Reply) : Type 0 where
   pub preloaded : AreTaken may_preload (first_values settings.initial)
   pub plan : List (List Kind)
@@ -66,8 +67,8 @@ pub record IsRecordedRun (may : Question → Answer → Type 0) (may_preload : �
   pub replays : Replays settings.ring (first_values settings.initial) lists
   pub answered : IsShownRun settings.condition settings.initial lists answer
 
--- no history: a fault that a run of the seed's plan may have, on a queue that may answer so, with rings and tries of these sizes; the place
--- that it names is that of the first value which the queue refused
+-- no history: a fault that a run of the seed's plan may have, on a queue that may answer so, with rings and tries of
+-- these sizes; the place that it names is that of the first value which the queue refused
 pub record IsFailedRun (may : Question → Answer → Type 0) (may_preload : ℕ → ℕ → Bool → Type 0) (settings : Settings) (answer : Reply) : Type 0 where
   pub plan : List (List Kind)
   pub seeded : IsSeeded settings.seed settings.threads settings.operations settings.percent plan

@@ -35,8 +35,8 @@ pub record AreEqualInitial (initial : List ℕ) (value i j : ℕ) : Type 0 where
   pub again : slice_get initial j ≡ Some value
 
 -- two events or initial values contradict each other: the ticket of an event isn't above that of the event before; a
--- call comes while a call of its thread is pending; a return is of another kind than its call; two calls have one value;
--- a call has an initial value; two initial values are equal; or one event, a call, never returns
+-- call comes while a call of its thread is pending; a return is of another kind than its call; two calls have one
+-- value; a call has an initial value; two initial values are equal; or one event, a call, never returns
 abbrev pub IsClash : List ℕ → List Event → Clash → Type 0
 IsClash initial events (clash.Tickets x y) = Stands events x × Stands events y × (suc x.place ≡ y.place)
     × (y.event.ticket ≤ x.event.ticket)

@@ -12,11 +12,11 @@ pub const MOST_KEPT: usize = 1 << 17;
 /// The maximum number of bytes that are kept before the last piece. A line that ends in that piece begins among them.
 const MOST_BEFORE: usize = 2 * LONGEST_LINE;
 
-/// A source that keeps the front of what it gives, at most 128 KiB, and behind that the last piece, so that a message can
-/// show a line.
+/// A source that keeps the front of what it gives, at most 128 KiB, and behind that the last piece, so that a message
+/// can show a line.
 ///
-/// It gives what the source gives. If memory runs out for the front, no more of it is kept, and if it does for the back,
-/// that is empty.
+/// It gives what the source gives. If memory runs out for the front, no more of it is kept, and if it does for the
+/// back, that is empty.
 #[derive(Drop)]
 pub struct FrontKept<S> {
     source: S,
@@ -30,7 +30,12 @@ impl<S> Model for FrontKept<S> {
 
     ghost Value = { Fronted S };
 
-    ghost view = { λ k. record { source = k.source; front = k.front.items; is_whole = k.is_whole; back = k.back.items } };
+    ghost view = { λ k. record {
+      source = k.source;
+      front = k.front.items;
+      is_whole = k.is_whole;
+      back = k.back.items;
+    } };
 }
 
 impl<S> FrontKept<S> {

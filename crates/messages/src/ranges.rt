@@ -129,7 +129,8 @@ fn is_faulty(part: Part, line: &[u8]) -> bool {
     }
 }
 
-/// Returns the first line that has a fault in a number field, and its part. The first line may be cut, and isn't looked at.
+/// Returns the first line that has a fault in a number field, and its part. The first line may be cut, and isn't
+/// looked at.
 pub(crate) fn first_faulty<'a>(reads: Reads, lines: &'a [u8]) -> Option<(Part, &'a [u8])> {
     for line in lines.split(|byte| *byte == b'\n').skip(1) {
         let part = part_by_words(reads, line);

@@ -221,8 +221,8 @@ fn wrong_name(part: Part, reads: Reads, line: &[u8]) -> &'static str {
     }
 }
 
-/// Returns a line whose numbers have a fault, and its part: the line of this number if it is kept, or else the first of the
-/// last lines that has such a fault, since the lines before it have none.
+/// Returns a line whose numbers have a fault, and its part: the line of this number if it is kept, or else the first
+/// of the last lines that has such a fault, since the lines before it have none.
 fn numbered_line<'a>(given: &Given<'a>, number: u64) -> Option<(Part, &'a [u8])> {
     match line_of(given, number) {
         Some(line) => Some((part_of(given, number), line)),

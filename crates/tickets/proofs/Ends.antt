@@ -1,12 +1,15 @@
 -- Each step at an end of the ring keeps the account.
-use Rattle.std.proofs.Common.{◌≡◌, ◌≢◌, ℕ, suc, ◌+◌, ◌<◌, ◌≤◌, Bool, true, false, List, [], ◌∷◌, ◌++◌, length, set, get_or, sum_by, replicate, ◌-◌}
-use Rattle.std.proofs.Common.{IsPermutation, refl, sym, ap, ◌∙◌, subst, arith, length-set, get_or-set_same, get_or-set_other, get_or-drop, length-append}
+use Rattle.std.proofs.Common.{◌≡◌, ◌≢◌, ℕ, suc, ◌+◌, ◌<◌, ◌≤◌, Bool, true, false, List, [], ◌∷◌, ◌++◌, length, set}
+use Rattle.std.proofs.Common.{get_or, sum_by, replicate, ◌-◌}
+use Rattle.std.proofs.Common.{IsPermutation, refl, sym, ap, ◌∙◌, subst, arith, length-set, get_or-set_same}
+use Rattle.std.proofs.Common.{get_or-set_other, get_or-drop, length-append}
 use Rattle.std.specs.Prelude.{Option, Some, None, Contains, drop, IsSome, take, if◌then◌else◌}
 use mathlib.Core.Option.{some}
 use mathlib.Core.Logic.{◌⊎◌, inl, inr}
 use lib.ListN.{get_elem?}
 use Rattle.std.proofs.lemmas.Bool.{cases_eq, cases_lt}
-use Rattle.atomic_table.specs.Table.{Act, Valid, carried_after, Me, keeps, stepped, Allows, Splits, Joins, Seen, Final, opening}
+use Rattle.atomic_table.specs.Table.{Act, Valid, carried_after, Me, keeps, stepped, Allows, Splits, Joins, Seen}
+use Rattle.atomic_table.specs.Table.{Final, opening}
 use Rattle.atomic_table.proofs.Lists.{set_else}
 use Rattle.tickets.specs.declared.account.Holding.{Holding}
 use Rattle.tickets.specs.declared.account.Setup.{Setup}
@@ -27,9 +30,12 @@ use Rattle.std.specs.List.Sorted.{IsStrictlyIncreasing}
 use Rattle.std.proofs.Math.Nat.{mod-eq_of_lt}
 use Rattle.tickets.specs.declared.TheConstants.{TICKET_LIMIT}
 use Rattle.tickets.specs.Queue.{bounded_after, effect_of_put, queue_after}
-use Rattle.tickets.specs.Inner.Account.{AreBooked, AreBeside, KeepsAccount, holding, initial_of, room_of, first_of, with_both, with_known}
-use Rattle.tickets.specs.Inner.Ring.{tail_at, head_at, ends, without_ends, with_ends, holders, ends_of, position, cell, FitsStaged, FitsTail, FitsNext, FitsHead}
-use Rattle.tickets.specs.Inner.Ring.{IsLaid, AreNodes, IsTailAt, IsHeadAt, told, seen_tail, staged_tail, pushed_tail, known_head, freed_head, stages, reads}
+use Rattle.tickets.specs.Inner.Account.{AreBooked, AreBeside, KeepsAccount, holding, initial_of, room_of, first_of}
+use Rattle.tickets.specs.Inner.Account.{with_both, with_known}
+use Rattle.tickets.specs.Inner.Ring.{tail_at, head_at, ends, without_ends, with_ends, holders, ends_of, position}
+use Rattle.tickets.specs.Inner.Ring.{cell, FitsStaged, FitsTail, FitsNext, FitsHead}
+use Rattle.tickets.specs.Inner.Ring.{IsLaid, AreNodes, IsTailAt, IsHeadAt, told, seen_tail, staged_tail, pushed_tail}
+use Rattle.tickets.specs.Inner.Ring.{known_head, freed_head, stages, reads}
 use Rattle.tickets.specs.Inner.Ring.{Glances, HasRoom, Publishes, PutsOne, FindsOne, Frees, TakesOne}
 use Rattle.tickets.specs.Inner.Shared.{row_words}
 use Rattle.tickets.proofs.Logged.{logged_same, logged_push, logged_more, logged_all, at_place}
@@ -37,7 +43,8 @@ use Rattle.tickets.proofs.Beside.{beside_split, beside_join, ends_beside, ring_b
 use Rattle.tickets.proofs.Rows.{nodes_at_tail, nodes_at_head, knowers_of, tails_of, heads_of, bounded_is_queue}
 use Rattle.tickets.proofs.Rows.{laid_staged, laid_pushed, laid_full, laid_empty, laid_taken}
 use Rattle.tickets.proofs.Turns.{same_position, next_position, position_within, full_ring, free_ring}
-use Rattle.tickets.proofs.Steps.{kept, kept_else, kept_seen, account_same, account_push, contains_some, drawn_below, HasNoEnd, first_word, others_idle, none_rise, first_plain}
+use Rattle.tickets.proofs.Steps.{kept, kept_else, kept_seen, account_same, account_push, contains_some, drawn_below}
+use Rattle.tickets.proofs.Steps.{HasNoEnd, first_word, others_idle, none_rise, first_plain}
 
 -- the tail end, of which this is known
 tail_of : (at seen room : ℕ) (staged : Option ℕ) (k : Option TailRight) → IsTailAt at seen room staged k
@@ -128,7 +135,8 @@ pub takes_one : (call x at room : ℕ) (m0 m1 m2 m3 : Me (Unit {0}) Holding) →
 takes_one call x at room m0 m1 m2 m3 asks found carried read free carried' to to_is = record {
   look = free.0;
   is = λ i. (whole i, rest i);
-  head = subst (λ (k : ℕ). IsHeadAt k room Unknown m3.0.head) (sym to_is) (subst (IsHeadAt (position room (at + 1)) room Unknown) (sym head) (freed_at at room (Holds x) (last m0.0.head)
+  head = subst (λ (k : ℕ). IsHeadAt k room Unknown m3.0.head) (sym to_is)
+      (subst (IsHeadAt (position room (at + 1)) room Unknown) (sym head) (freed_at at room (Holds x) (last m0.0.head)
       (known_at at room There (Holds x) (known_head There m0.0.head) (known_at at room Unknown There m0.0.head asks))));
 }
   where

@@ -20,6 +20,7 @@ pub record IsAccount (budget next : ℕ) (passes : List Holding) : Type 0 where
 
 -- no ticket is in two passes, each is below the next one, and the next one is the count of them all
 pub record DrawnOnce (next : ℕ) (passes : List Holding) : Type 0 where
-  pub apart : (i j t : ℕ) (g h : Holding) → i < j → slice_get passes i ≡ Some g → slice_get passes j ≡ Some h → Contains g.drawn t → Contains h.drawn t → ⊥
+  pub apart : (i j t : ℕ) (g h : Holding) → i < j → slice_get passes i ≡ Some g → slice_get passes j ≡ Some h
+      → Contains g.drawn t → Contains h.drawn t → ⊥
   pub below : All (λ h. All (λ t. t < next) h.drawn) passes
   pub count : sum_by (λ h. length h.drawn) passes ≡ next

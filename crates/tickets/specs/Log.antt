@@ -1,5 +1,6 @@
 -- The log of all passes' notes, as it is between any two steps.
-use Rattle.std.specs.Prelude.{◌≡◌, ℕ, ◌<◌, ◌≤◌, List, [], ◌∷◌, Option, Some, None, sum_by, flat_map, All, IsPermutation, ⊤}
+use Rattle.std.specs.Prelude.{◌≡◌, ℕ, ◌<◌, ◌≤◌, List, [], ◌∷◌, Option, Some, None, sum_by, flat_map, All}
+use Rattle.std.specs.Prelude.{IsPermutation, ⊤}
 use Rattle.tickets.specs.declared.account.Holding.{Holding}
 use Rattle.tickets.specs.declared.note.Effect.{Effect}
 use Rattle.tickets.specs.declared.note.Note.{Note}

@@ -14,7 +14,8 @@ queue_after_one (front ∷ rest) (Deq v) = (if nat_eq front v then Some rest els
 queue_after_one [] Empty = Some []
 queue_after_one (front ∷ rest) Empty = None
 
--- the queue after one operation, in which at most this many values have room; an enqueue fails if the queue is full, and only then
+-- the queue after one operation, in which at most this many values have room; an enqueue fails if the queue is full,
+-- and only then
 abbrev pub bounded_after_one : ℕ → List ℕ → Effect → Option (List ℕ)
 bounded_after_one room queue (Enq v) = if nat_lt (length queue) room then Some (queue ++ v ∷ []) else None
 bounded_after_one room queue (Not v) = if nat_eq (length queue) room then Some queue else None

@@ -41,7 +41,8 @@ fn note_by<M: Play<(), Holding>>(
     requires key { seat.old.table_id ≡ tickets.now.key }
     requires drew { Contains seat.old.me.0.drawn call }
     requires knows { knows_log seat.old.me.0 }
-    requires tells { (s : Step (Unit {0})) (look : ℕ) (after : Holding) → NotesAt call effect seat.old.me.0 look after → M.then s seat.old.me look (after, seat.old.me.1) }
+    requires tells { (s : Step (Unit {0})) (look : ℕ) (after : Holding) → NotesAt call effect seat.old.me.0 look after
+        → M.then s seat.old.me look (after, seat.old.me.1) }
     ensures key { seat.new.table_id ≡ tickets.now.key }
     ensures told { (s : Step (Unit {0})) × M.then s seat.old.me result seat.new.me }
 {

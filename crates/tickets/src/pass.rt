@@ -27,7 +27,12 @@ impl Model for Pass {
 
     ghost use Rattle.std.specs.Prelude.{◌≡◌, ◌+◌, length, [], None};
 
-    ghost view = { λ p. record { key = p.seat.table_id; left = p.left; drawn = p.seat.me.0.drawn; noted = p.seat.me.0.noted } };
+    ghost view = { λ p. record {
+      key = p.seat.table_id;
+      left = p.left;
+      drawn = p.seat.me.0.drawn;
+      noted = p.seat.me.0.noted;
+    } };
 
     ghost invariant = { λ p. (p.seat.me.0.left ≡ p.left) × (p.left + length p.seat.me.0.drawn ≡ p.share)
         × (p.seat.me.1 ≡ []) × (p.seat.me.0.log ≡ None) × (p.seat.me.0.tail ≡ None) × (p.seat.me.0.head ≡ None)

@@ -47,7 +47,8 @@ impl Model for TailEnd {
 
     ghost view = { λ t. t.seat.table_id };
 
-    ghost invariant = { λ t. (t.seat.me ≡ (ends t.seat.me.0.tail None, [])) × (t.seat.table_id.words ≡ t.place.room + 4)
+    ghost invariant = { λ t. (t.seat.me ≡ (ends t.seat.me.0.tail None, []))
+        × (t.seat.table_id.words ≡ t.place.room + 4)
         × IsTailAt t.place.at t.place.seen t.place.room None t.seat.me.0.tail
         × (t.place.at ≤ t.place.room) × (t.place.seen ≤ t.place.room) × (t.place.room ≤ TICKET_LIMIT) };
 }
@@ -72,13 +73,14 @@ impl Model for HeadEnd {
 
     ghost view = { λ h. h.seat.table_id };
 
-    ghost invariant = { λ h. (h.seat.me ≡ (ends None h.seat.me.0.head, [])) × (h.seat.table_id.words ≡ h.place.room + 4)
+    ghost invariant = { λ h. (h.seat.me ≡ (ends None h.seat.me.0.head, []))
+        × (h.seat.table_id.words ≡ h.place.room + 4)
         × IsHeadAt h.place.at h.place.room Unknown h.seat.me.0.head
         × (h.place.at ≤ h.place.room) × (h.place.room ≤ TICKET_LIMIT) };
 }
 
-// The position of the tail's next cell, the position at which it saw the head, and the number of values that there is room
-// for.
+// The position of the tail's next cell, the position at which it saw the head, and the number of values that there is
+// room for.
 #[derive(Clone, Copy)]
 pub(crate) struct TailPlace {
     pub(crate) at: usize,
@@ -139,7 +141,8 @@ impl HeadEnd {
     }
 }
 
-// Looks where the head is, and notes that the queue is full if it is behind the tail's next cell. The caller picks `M`.
+// Looks where the head is, and notes that the queue is full if it is behind the tail's next cell. The caller picks
+// `M`.
 fn glance_by<M: Play<(), Holding>>(
     tickets: &Tickets,
     seat: &mut Seat<(), Holding>,
@@ -192,7 +195,8 @@ fn find_by<M: Play<(), Holding>>(
     requires key { (seat.old.table_id ≡ tickets.now.key) × (tickets.now.key.words ≡ place.room + 4) }
     requires drew { Contains seat.old.me.0.drawn call }
     requires asks { IsHeadAt place.at place.room Unknown seat.old.me.0.head }
-    requires tells { (s : Step (Unit {0})) (found : ℕ) (after : Holding) → FindsOne call place.at seat.old.me.0 found after
+    requires tells { (s : Step (Unit {0})) (found : ℕ) (after : Holding)
+        → FindsOne call place.at seat.old.me.0 found after
         → M.then s seat.old.me found (after, seat.old.me.1) }
     ensures key { seat.new.table_id ≡ tickets.now.key }
     ensures told { (s : Step (Unit {0})) × M.then s seat.old.me result seat.new.me }
@@ -223,8 +227,8 @@ fn free_by<M: Play<(), Holding>>(
     tickets.table.shared.store::<M>(seat, TAKEN, next as u64);
 }
 
-// Returns the tail end's positions if there is room for one more value, and notes that the queue is full if not. It looks
-// where the head is only if there was no room when it looked last.
+// Returns the tail end's positions if there is room for one more value, and notes that the queue is full if not. It
+// looks where the head is only if there was no room when it looked last.
 fn with_room(
     tickets: &Tickets,
     seat: &mut Seat<(), Holding>,
@@ -256,8 +260,8 @@ fn with_room(
     })
 }
 
-// Writes the value into the next cell, counts it and notes its enqueue, or notes that the queue is full. Returns whether
-// it did, and the tail end's positions then.
+// Writes the value into the next cell, counts it and notes its enqueue, or notes that the queue is full. Returns
+// whether it did, and the tail end's positions then.
 fn put_on(
     tickets: &Tickets,
     seat: &mut Seat<(), Holding>,
@@ -283,8 +287,8 @@ fn put_on(
     (true, free)
 }
 
-// Reads the value of the next cell, frees the cell and notes the dequeue, or notes that the queue is empty. Returns the
-// value, and the head end's position then.
+// Reads the value of the next cell, frees the cell and notes the dequeue, or notes that the queue is empty. Returns
+// the value, and the head end's position then.
 fn take_on(
     tickets: &Tickets,
     seat: &mut Seat<(), Holding>,
@@ -319,12 +323,15 @@ impl Pass {
     /// Enqueues a value in the ring, and returns whether it did: false if the queue is full. The pass, which drew the
     /// call ticket, notes the operation.
     ///
-    /// It looks where the head is only if the queue was full when it last looked, as far as it knows. It makes two stores
-    /// and at most one load of the ring, four loads of the ticket word, waits for nobody, and takes no memory.
+    /// It looks where the head is only if the queue was full when it last looked, as far as it knows. It makes two
+    /// stores and at most one load of the ring, four loads of the ticket word, waits for nobody, and takes no memory.
     pub fn put(&mut self, tickets: &Tickets, end: &mut TailEnd, call: u64, value: u64) -> bool
         requires key { (self.old.key ≡ tickets.now.key) × (end.old ≡ tickets.now.key) }
         requires drew { Contains self.old.drawn call }
-        ensures noted { (look : ℕ) × (self.new ≡ record self.old { noted = self.old.noted ++ note_at call (effect_of_put value result) look ∷ [] }) }
+        ensures noted { (look : ℕ)
+            × (self.new ≡ record self.old {
+              noted = self.old.noted ++ note_at call (effect_of_put value result) look ∷ [];
+            }) }
         ensures same { end.new ≡ end.old }
     {
         let table = &tickets.table.shared;
@@ -336,15 +343,18 @@ impl Pass {
         put
     }
 
-    /// Dequeues the first value of the ring, or returns none if the queue is empty. The pass, which drew the call ticket,
-    /// notes the operation.
+    /// Dequeues the first value of the ring, or returns none if the queue is empty. The pass, which drew the call
+    /// ticket, notes the operation.
     ///
     /// It makes two loads and one store of the ring, four loads of the ticket word, waits for nobody, and takes no
     /// memory.
     pub fn take(&mut self, tickets: &Tickets, end: &mut HeadEnd, call: u64) -> Option<u64>
         requires key { (self.old.key ≡ tickets.now.key) × (end.old ≡ tickets.now.key) }
         requires drew { Contains self.old.drawn call }
-        ensures noted { (look : ℕ) × (self.new ≡ record self.old { noted = self.old.noted ++ note_at call (effect_of_take result) look ∷ [] }) }
+        ensures noted { (look : ℕ)
+            × (self.new ≡ record self.old {
+              noted = self.old.noted ++ note_at call (effect_of_take result) look ∷ [];
+            }) }
         ensures same { end.new ≡ end.old }
     {
         let table = &tickets.table.shared;

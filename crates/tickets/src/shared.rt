@@ -30,7 +30,8 @@ fn begin_put_by<M: Play<(), Holding>>(
     value: u64,
 ) -> u64
     requires key { (seat.old.table_id ≡ tickets.now.key) × (tickets.now.shared ≡ true) }
-    requires tells { (s : Step (Unit {0})) (found : ℕ) (after : Holding) → BeginsToPut call value tickets.now.room seat.old.me.0 found after
+    requires tells { (s : Step (Unit {0})) (found : ℕ) (after : Holding)
+        → BeginsToPut call value tickets.now.room seat.old.me.0 found after
         → M.then s seat.old.me found (after, seat.old.me.1) }
     ensures key { seat.new.table_id ≡ tickets.now.key }
     ensures told { (s : Step (Unit {0})) × M.then s seat.old.me result seat.new.me }
@@ -47,7 +48,8 @@ fn begin_take_by<M: Play<(), Holding>>(
     call: u64,
 ) -> u64
     requires key { (seat.old.table_id ≡ tickets.now.key) × (tickets.now.shared ≡ true) }
-    requires tells { (s : Step (Unit {0})) (found : ℕ) (after : Holding) → BeginsToTake call tickets.now.room seat.old.me.0 found after
+    requires tells { (s : Step (Unit {0})) (found : ℕ) (after : Holding)
+        → BeginsToTake call tickets.now.room seat.old.me.0 found after
         → M.then s seat.old.me found (after, seat.old.me.1) }
     ensures key { seat.new.table_id ≡ tickets.now.key }
     ensures told { (s : Step (Unit {0})) × M.then s seat.old.me result seat.new.me }
@@ -117,7 +119,10 @@ impl Pass {
     pub fn push(&mut self, tickets: &Tickets, call: u64, value: u64) -> bool
         requires key { (self.old.key ≡ tickets.now.key) × (tickets.now.shared ≡ true) }
         requires drew { Contains self.old.drawn call }
-        ensures noted { (look : ℕ) × (self.new ≡ record self.old { noted = self.old.noted ++ note_at call (effect_of_put value result) look ∷ [] }) }
+        ensures noted { (look : ℕ)
+            × (self.new ≡ record self.old {
+              noted = self.old.noted ++ note_at call (effect_of_put value result) look ∷ [];
+            }) }
     {
         push_on(tickets, &mut self.seat, call, value)
     }
@@ -130,7 +135,10 @@ impl Pass {
     pub fn pop(&mut self, tickets: &Tickets, call: u64) -> Option<u64>
         requires key { (self.old.key ≡ tickets.now.key) × (tickets.now.shared ≡ true) }
         requires drew { Contains self.old.drawn call }
-        ensures noted { (look : ℕ) × (self.new ≡ record self.old { noted = self.old.noted ++ note_at call (effect_of_take result) look ∷ [] }) }
+        ensures noted { (look : ℕ)
+            × (self.new ≡ record self.old {
+              noted = self.old.noted ++ note_at call (effect_of_take result) look ∷ [];
+            }) }
     {
         pop_on(tickets, &mut self.seat, call)
     }

@@ -101,8 +101,8 @@ impl Tickets {
         ))
     }
 
-    /// Makes a new word with a ring beside it, a pass whose share is the whole budget, and the two ends of the ring. The
-    /// ring holds the values of `initial` at first, and has room for `room` values.
+    /// Makes a new word with a ring beside it, a pass whose share is the whole budget, and the two ends of the ring.
+    /// The ring holds the values of `initial` at first, and has room for `room` values.
     ///
     /// It takes memory for each cell, and fails only if it is out of memory.
     pub fn with_ring(
@@ -216,14 +216,15 @@ impl Tickets {
     }
 
     /// Closes the word, and returns the number of tickets that were drawn, as `close` does. The share of `pass` is the
-    /// whole budget, so it noted each operation at both ends of the ring: its notes are those of a log whose looks rise,
-    /// and which a bounded queue accepts that held the ring's first values. In that log an enqueue fails if the queue is
-    /// full, and only then. It takes no memory.
+    /// whole budget, so it noted each operation at both ends of the ring: its notes are those of a log whose looks
+    /// rise, and which a bounded queue accepts that held the ring's first values. In that log an enqueue fails if the
+    /// queue is full, and only then. It takes no memory.
     pub fn close_with_ring(self, pass: Pass) -> u64
         requires key { (pass.key ≡ self.key) × (self.ended ≡ true) }
         requires whole { share_of pass ≡ self.budget }
         ensures drawn { pass.drawn ≡ numbers_below result }
-        ensures log { (log : List Note) × IsPermutation pass.noted log × LooksRise 0 log result × IsSome (queue_after self.initial log)
+        ensures log { (log : List Note) × IsPermutation pass.noted log × LooksRise 0 log result
+            × IsSome (queue_after self.initial log)
             × IsSome (bounded_after self.room self.initial log) }
     {
         self.settle(pass)
@@ -236,7 +237,8 @@ impl Tickets {
         requires key { (pass.key ≡ self.key) × (self.shared ≡ true) }
         requires whole { share_of pass ≡ self.budget }
         ensures drawn { pass.drawn ≡ numbers_below result }
-        ensures log { (log : List Note) × IsPermutation pass.noted log × LooksRise 0 log result × IsSome (queue_after self.initial log) }
+        ensures log { (log : List Note) × IsPermutation pass.noted log × LooksRise 0 log result
+            × IsSome (queue_after self.initial log) }
     {
         self.settle(pass)
     }
@@ -260,9 +262,9 @@ impl Tickets {
     }
 }
 
-// Returns the words of a table with a ring or with shared nodes: the next ticket, two numbers, and the cells or nodes. One
-// cell more than values have room for stays empty: a ring is full then, and a dequeue from shared nodes finds an empty
-// one after all others.
+// Returns the words of a table with a ring or with shared nodes: the next ticket, two numbers, and the cells or nodes.
+// One cell more than values have room for stays empty: a ring is full then, and a dequeue from shared nodes finds an
+// empty one after all others.
 fn row_of(alloc: Global, initial: &[u64], room: usize) -> Result<Vec<u64>, AllocError>
     requires fits { length initial.now ≤ room }
     requires room { room ≤ TICKET_LIMIT }

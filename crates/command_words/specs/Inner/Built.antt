@@ -1,8 +1,10 @@
 -- The steps that build the program: a command before and after parts of it are added.
 use Rattle.std.specs.Prelude.{codes}
 use Rattle.clap.specs.Simple.{App, new_shape, with_rule, with_subcommand}
-use Rattle.event_records.specs.declared.limits.TheConstants.{MAX_RING, MAX_SEED, MAX_STRESS_INITIAL, MAX_THREAD_OPERATIONS, MAX_WORKERS, MIN_RING}
-use Rattle.command_words.specs.Options.{flag_rule, number_rule, queue_rule, quiet_rule, the_complete, the_deciding, the_draw, the_judging, the_stats, the_stress, the_verify}
+use Rattle.event_records.specs.declared.limits.TheConstants.{MAX_RING, MAX_SEED, MAX_STRESS_INITIAL}
+use Rattle.event_records.specs.declared.limits.TheConstants.{MAX_THREAD_OPERATIONS, MAX_WORKERS, MIN_RING}
+use Rattle.command_words.specs.Options.{flag_rule, number_rule, queue_rule, quiet_rule, the_complete, the_deciding}
+use Rattle.command_words.specs.Options.{the_draw, the_judging, the_stats, the_stress, the_verify}
 
 -- the program with the first four of its subcommands
 abbrev pub with_first_four : App → App

@@ -1,6 +1,7 @@
 -- The account that every step keeps, and what each step does to a view.
 use Rattle.std.specs.Prelude.{◌≡◌, ℕ, ◌+◌, ◌<◌, ◌≤◌, List, [], ◌∷◌, ◌++◌, length, All, slice_index}
-use Rattle.std.specs.Prelude.{cond, nat_lt, ◌-◌, sum_by, take, drop, if◌then◌else◌, false, true, ◌⊎◌, Option, Some, None}
+use Rattle.std.specs.Prelude.{cond, nat_lt, ◌-◌, sum_by, take, drop, if◌then◌else◌, false, true, ◌⊎◌, Option, Some}
+use Rattle.std.specs.Prelude.{None}
 use Rattle.std.specs.List.Sorted.{IsStrictlyIncreasing}
 use Rattle.atomic_table.specs.Table.{State}
 use Rattle.tickets.specs.declared.TheConstants.{TICKET_LIMIT}
@@ -16,7 +17,15 @@ use Rattle.tickets.specs.Inner.Shared.{AreShared}
 
 -- a pass that may still draw this many tickets, with these tickets and notes
 abbrev pub holding : ℕ → List ℕ → List Note → Holding
-holding left drawn noted = record { left = left; drawn = drawn; noted = noted; log = None; tail = None; head = None; walk = None }
+holding left drawn noted = record {
+  left = left;
+  drawn = drawn;
+  noted = noted;
+  log = None;
+  tail = None;
+  head = None;
+  walk = None;
+}
 
 -- the view of the log, which has no share
 abbrev pub logging : List Note → Holding
@@ -44,11 +53,12 @@ with_both setup = record {
 
 -- the first pass, with the whole budget and the log
 abbrev pub with_known : Setup → Holding
-with_known setup = record { left = setup.budget; drawn = []; noted = []; log = Some []; tail = None; head = None; walk = None }
+with_known setup = record (holding setup.budget [] []) { log = Some [] }
 
 -- the first pass; if passes share nodes, it has neither an end nor the log
 abbrev pub first_of : Setup → Holding
-first_of setup = if setup.has_ring then with_both setup else (if setup.is_shared then holding setup.budget [] [] else with_known setup)
+first_of setup = if setup.has_ring then with_both setup
+    else (if setup.is_shared then holding setup.budget [] [] else with_known setup)
 
 -- the words after the ticket word, if no passes share nodes: a ring, or no pass has an end of one
 abbrev pub AreOwned : Setup → List ℕ → List Note → List Holding → Type 0
@@ -76,7 +86,8 @@ KeepsAccount setup s =
 -- rest of the view stays
 abbrev pub DrawsNext : Holding → ℕ → Holding → Type 0
 DrawsNext before ticket after =
-    (after.left + 1 ≡ before.left) × (after.drawn ≡ before.drawn ++ ticket ∷ []) × All (λ t. t < ticket) before.drawn × (ticket < TICKET_LIMIT)
+    (after.left + 1 ≡ before.left) × (after.drawn ≡ before.drawn ++ ticket ∷ []) × All (λ t. t < ticket) before.drawn
+    × (ticket < TICKET_LIMIT)
     × (after.noted ≡ before.noted) × (after.log ≡ before.log) × (after.tail ≡ before.tail) × (after.head ≡ before.head)
     × (after.walk ≡ before.walk)
     × All (λ n. n.look ≤ ticket) before.noted
@@ -101,7 +112,10 @@ with_log g h = record g { log = h.log }
 -- a pass that knows the log, after a note
 abbrev pub noting : ℕ → Effect → ℕ → Holding → Holding
 noting call effect look h =
-    record h { noted = h.noted ++ note_at call effect look ∷ []; log = Some (known_log h.log ++ note_at call effect look ∷ []) }
+    record h {
+      noted = h.noted ++ note_at call effect look ∷ [];
+      log = Some (known_log h.log ++ note_at call effect look ∷ []);
+    }
 
 -- the pass notes an operation in the log that it knows, at a look above its call ticket and not below the looks before
 abbrev pub NotesAt : ℕ → Effect → Holding → ℕ → Holding → Type 0

@@ -1,5 +1,6 @@
 -- The ring with two ends, and what each step on it does.
-use Rattle.std.specs.Prelude.{◌≡◌, ◌≢◌, ℕ, ◌+◌, ◌%◌, ◌<◌, ◌≤◌, ◌⊎◌, List, [], ◌∷◌, ◌++◌, length, All, sum_by, slice_index_or}
+use Rattle.std.specs.Prelude.{◌≡◌, ◌≢◌, ℕ, ◌+◌, ◌%◌, ◌<◌, ◌≤◌, ◌⊎◌, List, [], ◌∷◌, ◌++◌, length, All, sum_by}
+use Rattle.std.specs.Prelude.{slice_index_or}
 use Rattle.std.specs.Prelude.{Bool, if◌then◌else◌, Option, Some, None, ⊤}
 use Rattle.tickets.specs.declared.account.Holding.{Holding}
 use Rattle.tickets.specs.declared.account.TailRight.{TailRight}
@@ -13,13 +14,13 @@ use Rattle.tickets.specs.Log.{knowers, note_at}
 use Rattle.tickets.specs.Queue.{bounded_after, effect_of_put, effect_of_take}
 use Rattle.atomic_table.specs.Table.{Me}
 
--- the right of the tail end: the number of enqueued values, a number of values that were seen to be dequeued, the number
--- of values that there is room for, and the value in the next cell
+-- the right of the tail end: the number of enqueued values, a number of values that were seen to be dequeued, the
+-- number of values that there is room for, and the value in the next cell
 abbrev pub tail_at : ℕ → ℕ → ℕ → Option ℕ → TailRight
 tail_at at seen room staged = record { at = at; seen = seen; room = room; staged = staged }
 
--- the right of the head end: the number of dequeued values, the number of values that there is room for, and what is known
--- of the next cell
+-- the right of the head end: the number of dequeued values, the number of values that there is room for, and what is
+-- known of the next cell
 abbrev pub head_at : ℕ → ℕ → Next → HeadRight
 head_at at room next = record { at = at; room = room; next = next }
 
@@ -74,8 +75,9 @@ abbrev pub FitsHead : ℕ → ℕ → ℕ → List ℕ → Option HeadRight → 
 FitsHead room put taken row None = ⊤
 FitsHead room put taken row (Some h) = (h.at ≡ taken) × (h.room ≡ room) × FitsNext room put taken row h.next
 
--- the counts of enqueued and of dequeued values, as positions, and then the cells, in which the values that are enqueued and
--- not dequeued stand; a bounded queue that held the initial values accepts the log, and holds these values then
+-- the counts of enqueued and of dequeued values, as positions, and then the cells, in which the values that are
+-- enqueued and not dequeued stand; a bounded queue that held the initial values accepts the log, and holds these
+-- values then
 pub record IsLaid (initial : List ℕ) (room : ℕ) (row : List ℕ) (log : List Note) (put taken : ℕ) : Type 0 where
   pub queue : List ℕ
   pub legal : bounded_after room initial log ≡ Some queue
@@ -87,7 +89,8 @@ pub record IsLaid (initial : List ℕ) (room : ℕ) (row : List ℕ) (log : List
   pub lies : (i : ℕ) → i < length queue → slice_index_or row (cell room (taken + i)) 0 ≡ slice_index_or queue i 0
 
 -- no pass knows the log, one at most has each end, and what they know is true of the ring
-pub record AreNodes (initial : List ℕ) (room : ℕ) (row : List ℕ) (log : List Note) (views : List Holding) : Type 0 where
+pub record AreNodes (initial : List ℕ) (room : ℕ) (row : List ℕ) (log : List Note) (views : List Holding)
+    : Type 0 where
   pub put : ℕ
   pub taken : ℕ
   pub unknown : sum_by (λ h. knowers h.log) views ≡ 0
@@ -135,11 +138,13 @@ pushed_tail (Some t) = Some (tail_at (t.at + 1) t.seen t.room None)
 abbrev pub stages : ℕ → Holding → Holding
 stages x h = record h { tail = staged_tail x h.tail }
 
--- the tail end found the head behind its next cell, so the queue is full, and that was noted; or it saw where the head is
+-- the tail end found the head behind its next cell, so the queue is full, and that was noted; or it saw where the head
+-- is
 abbrev pub Glances : ℕ → ℕ → ℕ → ℕ → Holding → ℕ → Holding → Type 0
 Glances call x next room before found after =
     ((found ≡ next) × (look : ℕ) × (after ≡ told call (Not x) look before))
-    ⊎ ((found ≢ next) × (seen : ℕ) × (found ≡ position room seen) × (after ≡ record before { tail = seen_tail seen before.tail }))
+    ⊎ ((found ≢ next) × (seen : ℕ) × (found ≡ position room seen)
+    × (after ≡ record before { tail = seen_tail seen before.tail }))
 
 -- the tail end may have looked where the head is, which it saw at this position, and there is room for one more value
 pub record HasRoom (at seen room : ℕ) (before after : Me (Unit {0}) Holding) : Type 0 where
@@ -149,7 +154,8 @@ pub record HasRoom (at seen room : ℕ) (before after : Me (Unit {0}) Holding) :
 
 -- the staged value was enqueued, which was noted
 abbrev pub Publishes : ℕ → ℕ → Holding → Holding → Type 0
-Publishes call x before after = (look : ℕ) × (after ≡ record (told call (Enq x) look before) { tail = pushed_tail before.tail })
+Publishes call x before after = (look : ℕ)
+    × (after ≡ record (told call (Enq x) look before) { tail = pushed_tail before.tail })
 
 -- ---- at the head
 
@@ -175,7 +181,8 @@ reads x h = record h { head = known_head (Holds x) h.head }
 
 -- the value that was read was dequeued, which was noted
 abbrev pub Frees : ℕ → ℕ → Holding → Holding → Type 0
-Frees call x before after = (look : ℕ) × (after ≡ record (told call (Deq x) look before) { head = freed_head before.head })
+Frees call x before after = (look : ℕ)
+    × (after ≡ record (told call (Deq x) look before) { head = freed_head before.head })
 
 -- ---- whole calls
 

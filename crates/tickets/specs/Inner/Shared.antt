@@ -1,5 +1,6 @@
 -- Nodes that all passes share: what every step keeps, and what each step does to a view.
-use Rattle.std.specs.Prelude.{◌≡◌, ◌≢◌, ℕ, ◌+◌, ◌<◌, ◌≤◌, ◌-◌, ◌⊎◌, List, ◌∷◌, ◌++◌, length, All, sum_by, slice_index_or, replicate}
+use Rattle.std.specs.Prelude.{◌≡◌, ◌≢◌, ℕ, ◌+◌, ◌<◌, ◌≤◌, ◌-◌, ◌⊎◌, List, ◌∷◌, ◌++◌, length, All, sum_by}
+use Rattle.std.specs.Prelude.{slice_index_or, replicate}
 use Rattle.std.specs.Prelude.{Bool, Option, Some, None, ⊤}
 use Rattle.tickets.specs.declared.TheConstants.{NO_VALUE}
 use Rattle.tickets.specs.declared.account.Holding.{Holding}
@@ -57,9 +58,11 @@ pub record AreFilled (initial row : List ℕ) (log : List Note) : Type 0 where
   pub legal : queue_after initial log ≡ Some queue
   pub hint : slice_index_or row 0 0 ≤ slice_index_or row 1 0 + length queue
   pub within : slice_index_or row 1 0 + length queue + 3 ≤ length row
-  pub lies : (i : ℕ) → i < length queue → slice_index_or row (slice_index_or row 1 0 + i + 2) 0 ≡ slice_index_or queue i 0
+  pub lies : (i : ℕ) → i < length queue
+      → slice_index_or row (slice_index_or row 1 0 + i + 2) 0 ≡ slice_index_or queue i 0
   pub full : AreFullBefore row (slice_index_or row 1 0 + length queue)
-  pub empty : (k : ℕ) → slice_index_or row 1 0 + length queue ≤ k → k + 2 < length row → slice_index_or row (k + 2) 0 ≡ NO_VALUE
+  pub empty : (k : ℕ) → slice_index_or row 1 0 + length queue ≤ k → k + 2 < length row
+      → slice_index_or row (k + 2) 0 ≡ NO_VALUE
 
 -- the words at first: the next ticket 0, the counts of enqueued and of dequeued values, and the nodes, one more than
 -- there is room for
@@ -71,7 +74,8 @@ abbrev pub rights : Holding → ℕ
 rights h = knowers h.log + holders h.tail + holders h.head
 
 -- no pass has an end or the log, what each knows of the nodes is true, and the nodes hold what the log leaves
-pub record AreShared (initial : List ℕ) (room : ℕ) (row : List ℕ) (log : List Note) (views : List Holding) : Type 0 where
+pub record AreShared (initial : List ℕ) (room : ℕ) (row : List ℕ) (log : List Note) (views : List Holding)
+    : Type 0 where
   pub none : sum_by rights views ≡ 0
   pub wide : length row ≡ room + 3
   pub walks : All (λ h. FitsWalk row h.walk) views
@@ -79,7 +83,8 @@ pub record AreShared (initial : List ℕ) (room : ℕ) (row : List ℕ) (log : L
 
 -- an enqueue begins at a node before which all hold values
 abbrev pub BeginsToPut : ℕ → ℕ → ℕ → Holding → ℕ → Holding → Type 0
-BeginsToPut call x room before found after = (found ≤ room) × (after ≡ walking (walk_at call room found (Put x)) before)
+BeginsToPut call x room before found after = (found ≤ room)
+    × (after ≡ walking (walk_at call room found (Put x)) before)
 
 -- a dequeue begins at a node before which the values of all were dequeued
 abbrev pub BeginsToTake : ℕ → ℕ → Holding → ℕ → Holding → Type 0
@@ -89,7 +94,8 @@ BeginsToTake call room before found after = (found ≤ room) × (after ≡ walki
 -- node
 abbrev pub LinksAt : Walk → ℕ → Holding → ℕ → Holding → Type 0
 LinksAt w x before found after =
-    ((found ≡ NO_VALUE) × (look : ℕ) × (after ≡ walking (record w { at = w.at + 1 }) (told w.call (effect.Enq x) look before)))
+    ((found ≡ NO_VALUE) × (look : ℕ)
+    × (after ≡ walking (record w { at = w.at + 1 }) (told w.call (effect.Enq x) look before)))
     ⊎ ((found ≢ NO_VALUE) × (after ≡ walking (record w { at = w.at + 1 }) before))
 
 -- the enqueue failed and that was noted, and the call ended
@@ -108,12 +114,15 @@ PeeksAt w before found after =
 abbrev pub ClaimsAt : Walk → Holding → ℕ → Holding → Type 0
 ClaimsAt w before found after =
     ((found ≡ w.at) × (look : ℕ) × (after ≡ at_rest (told w.call (effect.Deq (value_of w.aim)) look before)))
-    ⊎ ((found ≢ w.at) × (w.at < found) × (found ≤ w.room) × (after ≡ walking (walk_at w.call w.room found Find) before))
+    ⊎ ((found ≢ w.at) × (w.at < found) × (found ≤ w.room)
+    × (after ≡ walking (walk_at w.call w.room found Find) before))
 
 -- a pass enqueued this value, or failed to, and noted it
 abbrev pub PushesOne : ℕ → ℕ → Bool → Me (Unit {0}) Holding → Me (Unit {0}) Holding → Type 0
-PushesOne call x put before after = (look : ℕ) × (after ≡ (at_rest (told call (effect_of_put x put) look before.0), before.1))
+PushesOne call x put before after = (look : ℕ)
+    × (after ≡ (at_rest (told call (effect_of_put x put) look before.0), before.1))
 
 -- a pass dequeued a value, or found the queue empty, and noted it
 abbrev pub PopsOne : ℕ → Option ℕ → Me (Unit {0}) Holding → Me (Unit {0}) Holding → Type 0
-PopsOne call taken before after = (look : ℕ) × (after ≡ (at_rest (told call (effect_of_take taken) look before.0), before.1))
+PopsOne call taken before after = (look : ℕ)
+    × (after ≡ (at_rest (told call (effect_of_take taken) look before.0), before.1))
