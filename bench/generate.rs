@@ -4,7 +4,7 @@
 //!     generate KIND EVENTS THREADS SEED
 //!
 //! KIND is `yes`; or another linearizable history: `names`, with values in no order and gaps between tickets; `wide`, where each of 64
-//! threads has an operation under way nearly all the time; `never`, enqueues alone; `refused`, enqueues that aren't taken;
+//! threads has an operation under way nearly all the time; `never`, only enqueues; `refused`, failed enqueues;
 //! `empty`, dequeues that find nothing; `initial`, a queue that holds one value for each 20 events first; or a fault near the end:
 //! `fresh`, `repeat`, `order`, `witness`, and `initial-witness` of such a queue; or `long`, an empty answer over nearly the whole
 //! history.

@@ -499,7 +499,7 @@ type Verdict = (&'static str, Vec<u32>);
 struct Sweep {
     order: Option<(u32, u32)>,
     covered: Option<u32>,
-    /// Empty answers and refused enqueues, each with its gap.
+    /// Empty dequeues and failed enqueues, each with its gap.
     singles: Vec<(u32, u32)>,
     /// Enqueues by the lesser of their return and their dequeue's, and by their dequeue's return.
     by_end: Vec<u32>,
