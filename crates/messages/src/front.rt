@@ -103,7 +103,7 @@ fn append(kept: &mut Vec<u8>, given: &[u8])
     }
 }
 
-/// Drops all but the last bytes, at most so many.
+/// Drops all but the last `most` bytes.
 fn keep_last(kept: &mut Vec<u8>, most: usize) {
     let excess = kept.len().saturating_sub(most);
     kept.copy_within(excess.., 0);

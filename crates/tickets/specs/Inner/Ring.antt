@@ -58,7 +58,7 @@ abbrev pub FitsStaged : List ℕ → TailRight → Option ℕ → Type 0
 FitsStaged row t None = ⊤
 FitsStaged row t (Some x) = (t.at < t.seen + t.room) × (slice_index_or row (cell t.room t.at) 0 ≡ x)
 
--- what the tail end knows, if so many values were enqueued and so many dequeued
+-- what the tail end knows, if `put` values were enqueued and `taken` dequeued
 abbrev pub FitsTail : ℕ → ℕ → ℕ → List ℕ → Option TailRight → Type 0
 FitsTail room put taken row None = ⊤
 FitsTail room put taken row (Some t) =
