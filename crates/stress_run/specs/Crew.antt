@@ -25,7 +25,8 @@ pub record IsNew (key : TableId) (sizes : SizesView) (row : List Kind) (w : Work
   pub running : w.stopped ≡ false
 
 -- a new worker for each row, in the order of their threads 0, 1, 2 and so on
-pub record IsCrew (key : TableId) (sizes : SizesView) (rows : List (List Kind)) (workers : List WorkerView) : Type 0 where
+pub record IsCrew (key : TableId) (sizes : SizesView) (rows : List (List Kind)) (workers : List WorkerView)
+    : Type 0 where
   pub threads : map (λ w. w.thread) workers ≡ numbers_below (length rows)
   pub each : AllZip (IsNew key sizes) rows workers
 

@@ -10,10 +10,12 @@ use Rattle.stress_run.specs.Crew.{SizesView, IsCrew, IsFaultOfWorker, IsNotAfter
 use Rattle.stress_run.specs.Faults.{IsWithinLimits}
 use Rattle.stress_run.specs.Workers.{WorkerView, WorksIn}
 use Rattle.stress_run.specs.declared.faults.RunFault.{RunFault}
-use Rattle.stress_run.specs.declared.faults.RunFault.TheVariants.{Limit, Roles, Memory, Stalled, CloseLost, Uncertified, Preload}
+use Rattle.stress_run.specs.declared.faults.RunFault.TheVariants.{Limit, Roles, Memory, Stalled, CloseLost}
+use Rattle.stress_run.specs.declared.faults.RunFault.TheVariants.{Uncertified, Preload}
 
 -- new workers made these rows, or stalled; the fault is one of theirs, and no stall of theirs counts before it
-pub record IsFaultAfter (may : Question → Answer → Type 0) (rows : List (List Kind)) (sizes : SizesView) (fault : RunFault) : Type 0 where
+pub record IsFaultAfter (may : Question → Answer
+    → Type 0) (rows : List (List Kind)) (sizes : SizesView) (fault : RunFault) : Type 0 where
   pub key : TableId
   pub workers : List WorkerView
   pub crew : IsCrew key sizes rows workers
@@ -35,7 +37,8 @@ abbrev pub IsFaultOfRun : (Question → Answer → Type 0) → List ℕ → List
 IsFaultOfRun may initial rows sizes Limit = ¬ (IsWithinLimits sizes.ring sizes.tries × AreInitialNames initial)
 IsFaultOfRun may initial rows sizes Roles = ⊥
 IsFaultOfRun may initial rows sizes Memory = IsWithinLimits sizes.ring sizes.tries
-IsFaultOfRun may initial rows sizes (Stalled t) = (t < length rows) × Overflows rows sizes t × IsFaultAfter may rows sizes (Stalled t)
+IsFaultOfRun may initial rows sizes (Stalled t) = (t < length rows) × Overflows rows sizes t
+    × IsFaultAfter may rows sizes (Stalled t)
 IsFaultOfRun may initial rows sizes (CloseLost t) = (t < length rows) × IsFaultAfter may rows sizes (CloseLost t)
 IsFaultOfRun may initial rows sizes (Uncertified t) = ⊥
 IsFaultOfRun may initial rows sizes (Preload place) = place < length initial

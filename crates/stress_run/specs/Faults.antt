@@ -6,7 +6,8 @@ use Rattle.stress_run.specs.declared.TheConstants.{MAX_TRIES}
 use Rattle.collector.specs.declared.rounds.CollectError.{CollectError}
 use Rattle.collector.specs.declared.rounds.CollectError.TheVariants.{Memory as OfMemory, Uncertified as OfToken}
 use Rattle.stress_run.specs.declared.faults.RunFault.{RunFault}
-use Rattle.stress_run.specs.declared.faults.RunFault.TheVariants.{Limit, Roles, Memory, Stalled, CloseLost, Uncertified, Preload}
+use Rattle.stress_run.specs.declared.faults.RunFault.TheVariants.{Limit, Roles, Memory, Stalled, CloseLost}
+use Rattle.stress_run.specs.declared.faults.RunFault.TheVariants.{Uncertified, Preload}
 
 -- the printed name of a fault
 abbrev pub name_of : RunFault → List ℕ

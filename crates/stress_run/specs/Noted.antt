@@ -1,5 +1,6 @@
 -- The notes of a proved queue in the log of a run, one for each operation.
-use Rattle.std.specs.Prelude.{◌≡◌, ℕ, ◌<◌, ◌≤◌, List, [], ◌∷◌, ◌++◌, Some, length, map, flat_map, slice_index_or, true, false, Bool, ⊤}
+use Rattle.std.specs.Prelude.{◌≡◌, ℕ, ◌<◌, ◌≤◌, List, [], ◌∷◌, ◌++◌, Some, length, map, flat_map, slice_index_or}
+use Rattle.std.specs.Prelude.{true, false, Bool, ⊤}
 use Rattle.tickets.specs.declared.note.Effect.{Effect}
 use Rattle.tickets.specs.declared.note.Effect.TheVariants as effect
 use Rattle.tickets.specs.declared.note.Note.{Note}
@@ -52,7 +53,8 @@ AreNotesOf (call ∷ ret ∷ rest) (n ∷ ns) = IsNoteOf call ret n × AreNotesO
 
 -- if the queue notes its answers, a worker that has one note for each operation keeps that, unless it is stopped
 abbrev pub KeepsNotes : Bool → WorkerView → WorkerView → Type 0
-KeepsNotes notes w w' = notes ≡ true → w'.stopped ≡ false → AreNotesOf w.sent w.pass.noted → AreNotesOf w'.sent w'.pass.noted
+KeepsNotes notes w w' = notes ≡ true → w'.stopped ≡ false → AreNotesOf w.sent w.pass.noted
+    → AreNotesOf w'.sent w'.pass.noted
 
 -- the notes are those of the operations of all lists, list by list
 pub record AreNotesOfAll (lists : List (List Event)) (notes : List Note) : Type 0 where

@@ -1,5 +1,6 @@
 -- The operations of a run, and the events that record them.
-use Rattle.std.specs.Prelude.{◌≡◌, ℕ, ◌<◌, ◌*◌, List, [], ◌∷◌, length, map, All, flat_map, sum_by, slice_index_or, IsPermutation}
+use Rattle.std.specs.Prelude.{◌≡◌, ℕ, ◌<◌, ◌*◌, List, [], ◌∷◌, length, map, All, flat_map, sum_by, slice_index_or}
+use Rattle.std.specs.Prelude.{IsPermutation}
 use Rattle.std.specs.List.Sorted.{IsStrictlyIncreasing}
 use Rattle.tickets.specs.Views.{numbers_below}
 use Rattle.std.specs.List.{range_with_len}
@@ -45,7 +46,8 @@ pub record IsAsked (may : Question → Answer → Type 0) (thread : ℕ) (key : 
   pub allowed : may o.question o.answer
 
 -- these are the events of operations of these kinds, which are numbered from `first`
-pub record Operates (may : Question → Answer → Type 0) (thread : ℕ) (key : TableId) (first : ℕ) (kinds : List Kind) (events : List Event) : Type 0 where
+pub record Operates (may : Question → Answer
+    → Type 0) (thread : ℕ) (key : TableId) (first : ℕ) (kinds : List Kind) (events : List Event) : Type 0 where
   pub operations : List Completed
   pub planned : map asked_kind operations ≡ kinds
   pub numbered : map asked_number operations ≡ range_with_len first (length kinds)
@@ -53,10 +55,12 @@ pub record Operates (may : Question → Answer → Type 0) (thread : ℕ) (key :
   pub recorded : events ≡ flat_map events_of operations
 
 -- one list of events for each row, which records the operations of the row and no others, with tickets of one word
-pub record IsRun (may : Question → Answer → Type 0) (rows : List (List Kind)) (lists : List (List Event)) (total : ℕ) : Type 0 where
+pub record IsRun (may : Question → Answer
+    → Type 0) (rows : List (List Kind)) (lists : List (List Event)) (total : ℕ) : Type 0 where
   pub word : TableId
   pub one_each : length lists ≡ length rows
-  pub operates : (t : ℕ) → t < length rows → Operates may t word 0 (slice_index_or rows t []) (slice_index_or lists t [])
+  pub operates : (t : ℕ) → t < length rows
+      → Operates may t word 0 (slice_index_or rows t []) (slice_index_or lists t [])
   pub rising : (t : ℕ) → t < length rows → IsStrictlyIncreasing (tickets_of (slice_index_or lists t []))
   pub tickets : IsPermutation (tickets_of (flat_map (λ list. list) lists)) (numbers_below total)
   pub two_each : total ≡ 2 * sum_by length rows

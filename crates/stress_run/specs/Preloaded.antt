@@ -3,7 +3,8 @@ use Rattle.std.specs.Prelude.{ℕ, ◌<◌, Bool, true, false, List, length, sli
 
 -- the queue may have answered that it enqueued each of the first `count` values, at its place
 abbrev pub AreTakenBefore : (ℕ → ℕ → Bool → Type 0) → List ℕ → ℕ → Type 0
-AreTakenBefore may_preload values count = (place : ℕ) → place < count → may_preload place (slice_index_or values place 0) true
+AreTakenBefore may_preload values count = (place : ℕ) → place < count
+    → may_preload place (slice_index_or values place 0) true
 
 -- the queue may have answered that it enqueued each of the values, at its place
 abbrev pub AreTaken : (ℕ → ℕ → Bool → Type 0) → List ℕ → Type 0

@@ -1,5 +1,6 @@
 -- What contracts see of a worker, and what its operations do to it.
-use Rattle.std.specs.Prelude.{◌≡◌, ℕ, ◌+◌, ◌*◌, ◌≤◌, ◌<◌, List, [], ◌∷◌, ◌++◌, length, All, slice_index_or, Bool, true, ◌⊎◌}
+use Rattle.std.specs.Prelude.{◌≡◌, ℕ, ◌+◌, ◌*◌, ◌≤◌, ◌<◌, List, [], ◌∷◌, ◌++◌, length, All, slice_index_or, Bool}
+use Rattle.std.specs.Prelude.{true, ◌⊎◌}
 use Rattle.std.specs.List.Sorted.{IsStrictlyIncreasing}
 use Rattle.tickets.specs.Views.{PassView, share_of}
 use Rattle.event_records.specs.Question.{Question, call_event}
@@ -59,7 +60,9 @@ pub record Stalls (kind : Kind) (w w' : WorkerView) : Type 0 where
   pub same : SameWorker w w'
   pub stopped : w'.stopped ≡ true
   pub filled : w'.capacity ≤ length w'.sent
-  pub sent : (w'.sent ≡ w.sent) ⊎ ((q : Question) × (q.thread ≡ w.thread) × (q.number ≡ w.asked) × (q.kind ≡ kind) × (w'.sent ≡ w.sent ++ call_event q ∷ []))
+  pub sent : (w'.sent ≡ w.sent)
+      ⊎ ((q : Question) × (q.thread ≡ w.thread) × (q.number ≡ w.asked) × (q.kind ≡ kind)
+      × (w'.sent ≡ w.sent ++ call_event q ∷ []))
   pub draws_few : w.pass.left ≤ w'.pass.left + 2
   pub asks_one : w'.asked ≤ w.asked + 1
   pub idle : w.stopped ≡ true → w' ≡ w

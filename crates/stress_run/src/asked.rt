@@ -12,8 +12,8 @@ use queue_interface::TestQueue;
 use tickets::{Pass, Tickets};
 
 // A queue that workers call. `may` is that of a `TestQueue`. `notes` says whether the calling pass notes each answer.
-// `serves` says which ticket words the questions may be of, and which end, if any, a worker needs for an operation: the
-// tail end of the queue to enqueue, the head end to dequeue.
+// `serves` says which ticket words the questions may be of, and which end, if any, a worker needs for an operation:
+// the tail end of the queue to enqueue, the head end to dequeue.
 pub(crate) trait Asked {
     ghost may: { Self → Question → Answer → Type 0 };
 

@@ -1,5 +1,6 @@
 // The end of a run, which closes the rings and joins the passes.
-ghost use Rattle.std.specs.Prelude.{◌≡◌, ◌⊎◌, ◌++◌, ◌∷◌, [], ◌+◌, IfOk, IfErr, IsOk, IsErr, OnErr, IfSome, IfNone, IsSome, Some, None, All};
+ghost use Rattle.std.specs.Prelude.{◌≡◌, ◌⊎◌, ◌++◌, ◌∷◌, [], ◌+◌, IfOk, IfErr, IsOk, IsErr, OnErr, IfSome, IfNone};
+ghost use Rattle.std.specs.Prelude.{IsSome, Some, None, All};
 ghost use Rattle.std.specs.Prelude.{IsPermutation, false};
 ghost use Rattle.stress_run.specs.Crew.{IsFaultOfWorker, IsNotAfterStall, token_of};
 ghost use Rattle.stress_run.specs.Inner.Crew.{AreClosed, Stands};
@@ -44,12 +45,14 @@ fn keep_closed(
     requires own { IfOk closed (λ c. c.1.key ≡ tickets.now.key) }
     ensures key { result.pass.key ≡ closing.pass.key }
     ensures standing { IfSome closing.fault (λ before. IfSome result.fault (λ f. IsNotAfter f before)) }
-    ensures stands { IfSome result.fault (λ f. (closing.fault ≡ Some f) ⊎ (((f ≡ Memory) × IsOk closed) ⊎ ((f ≡ CloseLost thread) × IsErr closed))) }
+    ensures stands { IfSome result.fault (λ f. (closing.fault ≡ Some f)
+        ⊎ (((f ≡ Memory) × IsOk closed) ⊎ ((f ≡ CloseLost thread) × IsErr closed))) }
     ensures lost { OnErr closed (IsSome result.fault) }
     ensures running { IfNone result.fault (closing.fault ≡ None) }
     ensures token { IfNone result.fault (IfOk closed (λ c. result.tokens.items ≡ closing.tokens.items ++ c.0 ∷ [])) }
     ensures left { IfNone result.fault (IfOk closed (λ c. result.pass.left ≡ closing.pass.left + c.1.left)) }
-    ensures drawn { IfNone result.fault (IfOk closed (λ c. IsPermutation (closing.pass.drawn ++ c.1.drawn) result.pass.drawn)) }
+    ensures drawn { IfNone result.fault (IfOk closed
+        (λ c. IsPermutation (closing.pass.drawn ++ c.1.drawn) result.pass.drawn)) }
     ensures noted { IfNone result.fault (IfOk closed (λ c. result.pass.noted ≡ closing.pass.noted ++ c.1.noted)) }
 {
     let Closing {

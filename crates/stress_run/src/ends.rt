@@ -51,7 +51,8 @@ impl Ends {
     // Takes the ends at which the operations of a row work.
     pub(crate) fn take_for(&mut self, row: &Row) -> Ends
         ensures taken { All (λ kind. end_for kind result ≡ end_for kind self.old) row.now }
-        ensures left { (kind : Kind) → (end_for kind self.new ≡ end_for kind self.old) ⊎ ((end_for kind self.new ≡ None) × Contains row.now kind) }
+        ensures left { (kind : Kind) → (end_for kind self.new ≡ end_for kind self.old)
+            ⊎ ((end_for kind self.new ≡ None) × Contains row.now kind) }
     {
         let tail = if has_kind(row, Kind::Enq) {
             self.tail.take()

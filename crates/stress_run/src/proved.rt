@@ -1,5 +1,6 @@
 // The proved queue with one lock: a list, with the log of its answers.
-ghost use Rattle.std.specs.Prelude.{◌≡◌, ◌++◌, ◌∷◌, [], ℕ, List, Contains, IfOk, IfErr, IfSome, IfNone, Some, map, if◌then◌else◌};
+ghost use Rattle.std.specs.Prelude.{◌≡◌, ◌++◌, ◌∷◌, [], ℕ, List, Contains, IfOk, IfErr, IfSome, IfNone, Some, map};
+ghost use Rattle.std.specs.Prelude.{if◌then◌else◌};
 ghost use Rattle.atomic_table.specs.Seated.{TableId};
 ghost use Rattle.event_records.specs.Question.{Question};
 ghost use Rattle.history_merge.specs.Queue.{accept_all, IsAccepted};

@@ -1,5 +1,6 @@
 // Runs of proved queues.
-ghost use Rattle.std.specs.Prelude.{◌≡◌, ◌≢◌, ℕ, ◌*◌, ◌⊎◌, ◌↔◌, List, [], Err, length, sum_by, true, IfOk, IfErr, IsTrue};
+ghost use Rattle.std.specs.Prelude.{◌≡◌, ◌≢◌, ℕ, ◌*◌, ◌⊎◌, ◌↔◌, List, [], Err, length, sum_by, true, IfOk, IfErr};
+ghost use Rattle.std.specs.Prelude.{IsTrue};
 ghost use Rattle.event_records.specs.declared.event.Event.{Event};
 ghost use Rattle.history_merge.specs.Initial.{IsCompleteFrom};
 ghost use Rattle.history_merge.specs.Legal.{IsLinearizable};
@@ -44,9 +45,9 @@ pub enum ProvedQueue {
     /// operations.
     TwoLocks,
     /// The queue without a lock of Michael and Scott (1996), on a row of nodes, one for each initial value and
-    /// operation, none of which is used twice. An enqueue exchanges the mark of the first empty node for its value. A dequeue reads the first node whose value was not
-    /// dequeued, and exchanges the count of dequeued values for the next number. A call whose exchange fails goes on
-    /// from what it found, so it waits for nobody.
+    /// operation, none of which is used twice. An enqueue exchanges the mark of the first empty node for its value. A
+    /// dequeue reads the first node whose value was not dequeued, and exchanges the count of dequeued values for the
+    /// next number. A call whose exchange fails goes on from what it found, so it waits for nobody.
     LockFree,
     /// The bounded queue without a lock of Lamport (1983, "Specifying concurrent program modules"), for one producer
     /// and one consumer: a ring of cells that are used again and again. It has room for `RING_PLACES` values, or for
@@ -304,14 +305,18 @@ pub fn run_proved<R: Threads + Wait + Sync>(
     ensures initial { IfOk result (λ r. r.initial ≡ initial.now) }
     ensures lists { IfOk result (λ r. AreRecorded r.lists) }
     ensures replays { IfOk result (λ r. Replays ring initial.now r.lists) }
-    ensures fits { IfOk result (λ r. (merged : List Event) → IsMerged r.lists merged → IsCompleteFrom initial.now merged) }
-    ensures linearizable { IfOk result (λ r. (merged : List Event) → IsMerged r.lists merged → IsLinearizable initial.now (operations_of merged)) }
+    ensures fits { IfOk result (λ r. (merged : List Event) → IsMerged r.lists merged
+        → IsCompleteFrom initial.now merged) }
+    ensures linearizable { IfOk result (λ r. (merged : List Event) → IsMerged r.lists merged
+        → IsLinearizable initial.now (operations_of merged)) }
     ensures sizes { ¬ IsWithinLimits ring tries → result ≡ Err Limit }
     ensures names { ¬ AreInitialNames initial.now → (result ≡ Err Limit) ⊎ (result ≡ Err Memory) }
     ensures preloads { (place : ℕ) → result ≢ Err (Preload place) }
     ensures roles { result ≡ Err Roles → ¬ CanRun queue plan.now }
-    ensures refused { IsWithinLimits ring tries → AreInitialNames initial.now → ¬ CanRun queue plan.now → (result ≡ Err Roles) ⊎ (result ≡ Err Memory) }
-    ensures fault { IfErr result (λ fault. (fault ≡ Roles) ⊎ IsFaultOfRun AnswersInKind initial.now plan.now (record { ring = ring; tries = tries }) fault) }
+    ensures refused { IsWithinLimits ring tries → AreInitialNames initial.now → ¬ CanRun queue plan.now
+        → (result ≡ Err Roles) ⊎ (result ≡ Err Memory) }
+    ensures fault { IfErr result (λ fault. (fault ≡ Roles)
+        ⊎ IsFaultOfRun AnswersInKind initial.now plan.now (record { ring = ring; tries = tries }) fault) }
 {
     let (sizes, held) = admitted(alloc, initial, ring, tries)?;
     if !can_run(queue, plan) {

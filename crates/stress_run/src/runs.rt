@@ -1,5 +1,6 @@
 // A whole run, from a plan to the recorded lists of events.
-ghost use Rattle.std.specs.Prelude.{◌≡◌, ℕ, ◌<◌, ◌*◌, sum_by, ◌↔◌, ◌⊎◌, List, [], All, Err, None, Some, length, map, IfOk, IfErr, IfSome, true, false};
+ghost use Rattle.std.specs.Prelude.{◌≡◌, ℕ, ◌<◌, ◌*◌, sum_by, ◌↔◌, ◌⊎◌, List, [], All, Err, None, Some, length, map};
+ghost use Rattle.std.specs.Prelude.{IfOk, IfErr, IfSome, true, false};
 ghost use Rattle.std.specs.List.{AllZip};
 ghost use Rattle.collector.specs.Ends.{rings_of, threads_of_tokens};
 ghost use Rattle.collector.specs.Inner.Ends.{rings_of_tokens};
@@ -197,12 +198,15 @@ pub fn run_from<R: Threads + Sync>(
     ensures initial { IfOk result (λ r. r.initial ≡ initial.now) }
     ensures lists { IfOk result (λ r. AreRecorded r.lists) }
     ensures replays { IfOk result (λ r. Replays ring initial.now r.lists) }
-    ensures fits { IfOk result (λ r. (merged : List Event) → IsMerged r.lists merged → IsCompleteFrom initial.now merged) }
+    ensures fits { IfOk result (λ r. (merged : List Event) → IsMerged r.lists merged
+        → IsCompleteFrom initial.now merged) }
     ensures sizes { ¬ IsWithinLimits ring tries → result ≡ Err Limit }
     ensures names { ¬ AreInitialNames initial.now → (result ≡ Err Limit) ⊎ (result ≡ Err Memory) }
     ensures preloaded { IfOk result (λ _. AreTaken (may_preload queue.now) initial.now) }
-    ensures refused { (place : ℕ) → result ≡ Err (Preload place) → IsFirstRefused (may_preload queue.now) initial.now place }
-    ensures fault { IfErr result (IsFaultOfRun (may queue.now) initial.now plan.now (record { ring = ring; tries = tries })) }
+    ensures refused { (place : ℕ) → result ≡ Err (Preload place)
+        → IsFirstRefused (may_preload queue.now) initial.now place }
+    ensures fault { IfErr result (IsFaultOfRun (may queue.now) initial.now plan.now
+        (record { ring = ring; tries = tries })) }
 {
     let (sizes, held) = admitted(alloc, initial, ring, tries)?;
     preload_all(queue, initial)?;
@@ -233,7 +237,8 @@ pub(crate) fn admitted(
 // Enqueues the values in turn, up to the first whose enqueue fails.
 fn preload_all(queue: &dyn TestQueue, initial: &[u64]) -> Result<(), RunFault>
     ensures taken { IfOk result (λ _. AreTaken (may_preload queue.now) initial.now) }
-    ensures refused { IfErr result (λ fault. (place : ℕ) × (fault ≡ Preload place) × IsFirstRefused (may_preload queue.now) initial.now place) }
+    ensures refused { IfErr result (λ fault. (place : ℕ) × (fault ≡ Preload place)
+        × IsFirstRefused (may_preload queue.now) initial.now place) }
 {
     for (place, value) in initial.iter().enumerate() {
         if !queue.preload(place, *value) {
@@ -259,7 +264,8 @@ fn run_within<R: Threads + Sync>(
     ensures initial { IfOk result (λ r. r.initial ≡ initial.items) }
     ensures lists { IfOk result (λ r. AreRecorded r.lists) }
     ensures replays { IfOk result (λ r. Replays sizes.ring initial.items r.lists) }
-    ensures fits { IfOk result (λ r. (merged : List Event) → IsMerged r.lists merged → IsCompleteFrom initial.items merged) }
+    ensures fits { IfOk result (λ r. (merged : List Event) → IsMerged r.lists merged
+        → IsCompleteFrom initial.items merged) }
     ensures fault { IfErr result (IsFaultOfRun (may queue.now) [] plan.now sizes) }
 {
     let (tickets, pass) = Tickets::new(alloc, 2 * plan.operations())?;
@@ -290,7 +296,8 @@ pub(crate) fn run_on<Q: Asked + Sync, R: Threads + Sync>(
     requires roles { (own ≡ no_ends) ⊎ HasOneOfEach plan.now }
     ensures key { IfOk result (λ r. r.1.key ≡ tickets.now.key) }
     ensures whole { IfOk result (λ r. share_of r.1 ≡ 2 * sum_by length plan.now) }
-    ensures recorded { IfOk result (λ r. (total : ℕ) → r.1.drawn ≡ numbers_below total → IsRun (Q.may queue.now) plan.now r.0 total) }
+    ensures recorded { IfOk result (λ r. (total : ℕ) → r.1.drawn ≡ numbers_below total
+        → IsRun (Q.may queue.now) plan.now r.0 total) }
     ensures lists { IfOk result (λ r. (total : ℕ) → r.1.drawn ≡ numbers_below total → AreRecorded r.0) }
     ensures told { IfOk result (λ r. Q.notes queue.now ≡ true → AreNotesOfAll r.0 r.1.noted) }
     ensures fault { IfErr result (IsFaultOfRun (Q.may queue.now) [] plan.now sizes) }
@@ -319,7 +326,8 @@ fn close_and_seal(
     requires rest { rest.key ≡ tickets.now.key }
     requires keys { All (λ w. w.pass.key ≡ tickets.now.key) workers.items }
     requires rings { rings_of_tokens (map token_of workers.items) ≡ rings_of collector.rings }
-    requires order { threads_of_tokens (map token_of workers.items) ≡ numbers_below (length (map token_of workers.items)) }
+    requires order { threads_of_tokens (map token_of workers.items)
+        ≡ numbers_below (length (map token_of workers.items)) }
     ensures sealed { IfOk result (λ r. AreSealed rest workers.items r.0 r.1) }
     ensures fault { IfErr result (IsFaultOfClosing workers.items) }
 {
@@ -356,7 +364,8 @@ fn work_and_collect<Q: Asked + Sync, R: Threads + Sync>(
     let is_abandoned = &abandoned;
     let working = move || -> Result<Vec<Worker>, AllocError>
         requires { All (IsReadyIn (Q.serves queue.now tickets.now) tickets.now.key rows.now) workers.items }
-        ensures worked { IfOk result (λ after. AllZip (WorksIn (Q.may queue.entry.now) rows.entry.now) workers.items after.items) }
+        ensures worked { IfOk result
+            (λ after. AllZip (WorksIn (Q.may queue.entry.now) rows.entry.now) workers.items after.items) }
         ensures told { IfOk result (λ after. AllZip (KeepsNotes (Q.notes queue.entry.now)) workers.items after.items) }
     {
         let after = work_all(rt, queue, tickets, rows, workers, is_abandoned);

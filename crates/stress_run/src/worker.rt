@@ -1,5 +1,6 @@
 // A worker, which draws tickets, calls the queue, and pushes what it did into its ring.
-ghost use Rattle.std.specs.Prelude.{◌≡◌, ◌+◌, ◌∷◌, ◌++◌, [], ◌≤◌, ◌<◌, Contains, IfOk, OnOk, OnErr, length, true, false};
+ghost use Rattle.std.specs.Prelude.{◌≡◌, ◌+◌, ◌∷◌, ◌++◌, [], ◌≤◌, ◌<◌, Contains, IfOk, OnOk, OnErr, length, true};
+ghost use Rattle.std.specs.Prelude.{false};
 ghost use Rattle.event_records.specs.Question.{call_event, next_question};
 ghost use Rattle.event_records.specs.declared.limits.TheConstants.{NAMES_OF_A_THREAD};
 ghost use Rattle.stress_run.specs.Crew.{token_of};
@@ -23,8 +24,8 @@ use tickets::{Drawn, Pass, Tickets};
 /// The tools with which one thread records: its pass, its namer, and the push end of its ring.
 ///
 /// Contracts see the pass, the ends of the queue that the worker has for itself, the thread, the number of questions
-/// that were asked, the ring with its capacity, the number of tries of a push, all events that were pushed, and whether
-/// the worker is stopped.
+/// that were asked, the ring with its capacity, the number of tries of a push, all events that were pushed, and
+/// whether the worker is stopped.
 #[derive(Drop)]
 pub struct Worker {
     pass: Pass,
@@ -54,7 +55,8 @@ impl Model for Worker {
       stopped = w.stopped;
     } };
 
-    ghost invariant = { λ w. (w.namer.thread ≡ w.ring.thread) × AreTries w.tries × (w.stopped ≡ true → w.ring.capacity ≤ length w.ring.sent) };
+    ghost invariant = { λ w. (w.namer.thread ≡ w.ring.thread) × AreTries w.tries
+        × (w.stopped ≡ true → w.ring.capacity ≤ length w.ring.sent) };
 }
 
 // A question to enqueue or to dequeue.
@@ -97,7 +99,8 @@ fn push_with_tries(
 ) -> Result<(), WorkerFault>
     requires thread { noted.thread ≡ ring.old.thread }
     requires tries { AreTries tries }
-    ensures pushed { OnOk result (ring.new ≡ record ring.old { sent = ring.old.sent ++ noted ∷ []; room = ring.new.room }) }
+    ensures pushed { OnOk result
+        (ring.new ≡ record ring.old { sent = ring.old.sent ++ noted ∷ []; room = ring.new.room }) }
     ensures full { OnErr result (ring.new ≡ ring.old) }
     ensures filled { OnErr result (ring.old.capacity ≤ length ring.old.sent) }
 {
@@ -196,7 +199,8 @@ impl Worker {
     fn record(&mut self, noted: Noted, is_abandoned: &AtomicBool) -> Result<(), WorkerFault>
         requires { noted.thread ≡ self.old.thread }
         ensures sent { OnOk result (self.new ≡ record self.old { sent = self.old.sent ++ noted ∷ [] }) }
-        ensures stopped { OnErr result ((self.new ≡ record self.old { stopped = true }) × (self.old.capacity ≤ length self.old.sent)) }
+        ensures stopped { OnErr result ((self.new ≡ record self.old { stopped = true })
+            × (self.old.capacity ≤ length self.old.sent)) }
     {
         let pushed = push_with_tries(&mut self.ring, noted, self.tries, is_abandoned);
         if pushed.is_err() {

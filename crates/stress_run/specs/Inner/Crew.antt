@@ -1,5 +1,6 @@
 -- The end of a run: rings are closed, passes are joined, and lists are sealed.
-use Rattle.std.specs.Prelude.{◌≡◌, ◌+◌, List, [], ◌++◌, map, All, sum_by, flat_map, IsPermutation, Contains, ◌⊎◌, Option, Some, None, false}
+use Rattle.std.specs.Prelude.{◌≡◌, ◌+◌, List, [], ◌++◌, map, All, sum_by, flat_map, IsPermutation, Contains, ◌⊎◌}
+use Rattle.std.specs.Prelude.{Option, Some, None, false}
 use Rattle.tickets.specs.Views.{PassView}
 use Rattle.event_records.specs.declared.kind.Kind.{Kind}
 use Rattle.event_rings.specs.Ring.{DrainView, TokenView}
@@ -19,7 +20,8 @@ abbrev pub HasItsEnds : EndsView → List Kind → WorkerView → Type 0
 HasItsEnds ends row w = All (λ kind. end_for kind w.ends ≡ end_for kind ends) row
 
 -- none of these workers is stopped, these are the close tokens of their rings, and their passes are joined to the rest
-pub record AreClosed (rest : PassView) (workers : List WorkerView) (tokens : List TokenView) (pass : PassView) : Type 0 where
+pub record AreClosed (rest : PassView) (workers : List WorkerView) (tokens : List TokenView) (pass : PassView)
+    : Type 0 where
   pub running : All (λ w. w.stopped ≡ false) workers
   pub tokens_are : tokens ≡ map token_of workers
   pub key : pass.key ≡ rest.key
@@ -29,10 +31,12 @@ pub record AreClosed (rest : PassView) (workers : List WorkerView) (tokens : Lis
 
 -- this fault stood before, or memory ran out, or it is a fault of one of these workers
 abbrev pub Stands : Option RunFault → List WorkerView → RunFault → Type 0
-Stands standing workers f = (standing ≡ Some f) ⊎ ((f ≡ Memory) ⊎ ((w : WorkerView) × Contains workers w × IsFaultOfWorker f w))
+Stands standing workers f = (standing ≡ Some f)
+    ⊎ ((f ≡ Memory) ⊎ ((w : WorkerView) × Contains workers w × IsFaultOfWorker f w))
 
 -- the rings of these workers are closed, their passes are joined, and these are the lists of the events that they sent
-pub record AreSealed (rest : PassView) (workers : List WorkerView) (lists : List (List Event)) (pass : PassView) : Type 0 where
+pub record AreSealed (rest : PassView) (workers : List WorkerView) (lists : List (List Event)) (pass : PassView)
+    : Type 0 where
   pub closed : AreClosed rest workers (map token_of workers) pass
   pub lists_are : lists ≡ map (λ token. token.sent) (map token_of workers)
 

@@ -16,14 +16,16 @@ use Rattle.tickets.specs.Views.{DrawsOne, PassView}
 use Rattle.tickets.specs.declared.note.Note.{Note}
 
 -- the worker draws from this word, and has tickets, names and the ends that serve for operations of these kinds
-pub record IsReady (serves : Option TableId → Type 0) (key : TableId) (kinds : List Kind) (w : WorkerView) : Type 0 where
+pub record IsReady (serves : Option TableId
+    → Type 0) (key : TableId) (kinds : List Kind) (w : WorkerView) : Type 0 where
   pub of_key : w.pass.key ≡ key
   pub enough : 2 * length kinds ≤ w.pass.left
   pub room : w.asked + length kinds ≤ NAMES_OF_A_THREAD
   pub served : All (λ kind. serves (end_for kind w.ends)) kinds
 
 -- the worker has a row, and is ready for its kinds
-pub record IsReadyIn (serves : Option TableId → Type 0) (key : TableId) (rows : List (List Kind)) (w : WorkerView) : Type 0 where
+pub record IsReadyIn (serves : Option TableId
+    → Type 0) (key : TableId) (rows : List (List Kind)) (w : WorkerView) : Type 0 where
   pub has_row : w.thread < length rows
   pub ready : IsReady serves key (row_of rows w) w
 
@@ -38,7 +40,8 @@ end_asked (any.Enq ask) ends = ends.tail
 end_asked (any.Deq ask) ends = ends.head
 
 -- the queue answered the question and noted the answer, if it notes answers, and this is the return event
-pub record IsStamped (may : Question → Answer → Type 0) (notes : Bool) (q : Question) (old new : PassView) (returned : Event) : Type 0 where
+pub record IsStamped (may : Question → Answer
+    → Type 0) (notes : Bool) (q : Question) (old new : PassView) (returned : Event) : Type 0 where
   pub answered : Answered
   pub noted : List Note
   pub of_question : answered.question ≡ q
