@@ -1,4 +1,5 @@
 pub mod Plans
+pub mod Roles
 pub mod Seeds
 pub mod Texts
 pub mod Inner

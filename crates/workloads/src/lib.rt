@@ -2,6 +2,7 @@
 #![tactic(auto)]
 
 mod plans;
+mod roles;
 mod seeds;
 mod texts;
 
