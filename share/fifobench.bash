@@ -54,12 +54,12 @@ _fifobench() {
         stress)
             case $before in
                 --queue) _fifobench_words "$queues" "$word" ;;
-                --threads | --ops | --seed | --percent | --ring | --initial) ;;
+                --threads | --ops | --seed | --percent | --producers | --ring | --initial) ;;
                 *)
                     if [[ $word == --queue=* ]]; then
                         _fifobench_words "--queue=${queues// / --queue=}" "$word"
                     elif [ -z "$value" ]; then
-                        _fifobench_words '--queue --threads --ops --seed --percent --ring --initial --local --weak-empty -q --quiet -h --help' "$word"
+                        _fifobench_words '--queue --threads --ops --seed --percent --producers --ring --initial --local --weak-empty -q --quiet -h --help' "$word"
                     fi
                     ;;
             esac
