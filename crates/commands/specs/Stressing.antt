@@ -1,5 +1,5 @@
 -- What `stress` answers: it reads nothing, and runs the first queue of a name.
-use Rattle.std.specs.Prelude.{◌≡◌, ◌≢◌, ℕ, ◌*◌, ◌==◌, ◌≤◌, if◌then◌else◌, Bool, List, ◌∷◌, ◌++◌, All, ◌⊎◌, codes}
+use Rattle.std.specs.Prelude.{◌≡◌, ◌≢◌, ℕ, ◌*◌, ◌==◌, ◌≤◌, min, if◌then◌else◌, Bool, List, ◌∷◌, ◌++◌, All, ◌⊎◌, codes}
 use Rattle.std.specs.List.{range_with_len}
 use Rattle.event_records.specs.declared.event.Event.{Event}
 use Rattle.event_records.specs.declared.kind.Kind.{Kind}
@@ -12,6 +12,7 @@ use Rattle.history_text.specs.declared.version.Version.{Version}
 use Rattle.history_text.specs.declared.version.Version.TheVariants.{One, Two}
 use Rattle.history_text.specs.Versions.{said_in}
 use Rattle.recorder_core.specs.Replay.{AreRecorded, Replays}
+use Rattle.workloads.specs.Roles.{IsOfRoles}
 use Rattle.workloads.specs.Seeds.{IsSeeded}
 use Rattle.stress_run.specs.declared.faults.RunFault.{RunFault}
 use Rattle.stress_run.specs.declared.faults.RunFault.TheVariants.{Limit, Preload}
@@ -52,11 +53,17 @@ pub record IsShownRun (condition : Condition) (count : ℕ) (lists : List (List 
   pub complete : IsCompleteFrom (first_values count) events
   pub answered : IsOfVerdictUnder condition (run_history count events) (shown (said_in (run_version count) (run_history count events))) answer
 
--- a run of the seed's plan on a queue that may answer so and took the first values: its lists by ticket, with their verdict
+-- the plan that the settings ask for: without producers the seed's, else one of so many producers, all workers if they are no more
+abbrev pub IsPlanned : Settings → List (List Kind) → Type 0
+IsPlanned settings plan = Whether (settings.producers ≡ 0)
+    (IsSeeded settings.seed settings.threads settings.operations settings.percent plan)
+    (IsOfRoles settings.threads (min settings.producers settings.threads) settings.operations plan)
+
+-- a run of the plan on a queue that may answer so and took the first values: its lists by ticket, with their verdict
 pub record IsRecordedRun (may : Question → Answer → Type 0) (may_preload : ℕ → ℕ → Bool → Type 0) (settings : Settings) (answer : Reply) : Type 0 where
   pub preloaded : AreTaken may_preload (first_values settings.initial)
   pub plan : List (List Kind)
-  pub seeded : IsSeeded settings.seed settings.threads settings.operations settings.percent plan
+  pub planned : IsPlanned settings plan
   pub lists : List (List Event)
   pub total : ℕ
   pub run : IsRun may plan lists total
@@ -64,11 +71,11 @@ pub record IsRecordedRun (may : Question → Answer → Type 0) (may_preload : �
   pub replays : Replays settings.ring (first_values settings.initial) lists
   pub answered : IsShownRun settings.condition settings.initial lists answer
 
--- no history: a fault that a run of the seed's plan may have, on a queue that may answer so, with rings and tries of these sizes; the place
+-- no history: a fault that a run of the plan may have, on a queue that may answer so, with rings and tries of these sizes; the place
 -- that it names is that of the first value which the queue refused
 pub record IsFailedRun (may : Question → Answer → Type 0) (may_preload : ℕ → ℕ → Bool → Type 0) (settings : Settings) (answer : Reply) : Type 0 where
   pub plan : List (List Kind)
-  pub seeded : IsSeeded settings.seed settings.threads settings.operations settings.percent plan
+  pub planned : IsPlanned settings plan
   pub fault : RunFault
   pub of_run : IsFaultOfRun may (first_values settings.initial) plan (record { ring = settings.ring; tries = TRIES }) fault
   pub within : fault ≢ Limit

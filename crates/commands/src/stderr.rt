@@ -119,6 +119,7 @@ fn complaint_of<'a>(
             name: options.queue,
             names,
         },
+        (Fault::Roles, _) => Complaint::Roles,
         (Fault::Limit, Task::Stress(options)) => Complaint::Limit {
             threads: options.threads as u64,
             operations: options.operations as u64,

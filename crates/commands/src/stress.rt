@@ -5,13 +5,12 @@ ghost use Rattle.event_records.specs.declared.limits.TheConstants.{MAX_OPERATION
 ghost use Rattle.history_merge.specs.Legal.{IsLinearizable};
 ghost use Rattle.history_merge.specs.Merge.{IsMerged};
 ghost use Rattle.history_merge.specs.Operations.{operations_of};
-ghost use Rattle.workloads.specs.Seeds.{IsSeeded};
 ghost use Rattle.queue_interface.specs.Answers.{AnswersInKind, TakesOrRefuses};
 ghost use Rattle.command_words.specs.Options.{settings_of, IsWithinRanges};
 ghost use Rattle.commands.specs.Answers.{ShowsNoViolation};
 ghost use Rattle.commands.specs.Judging.{AnswersOrNoMemory};
 ghost use Rattle.commands.specs.Outcomes.{answer_of, NamesPlaces};
-ghost use Rattle.commands.specs.Stressing.{IsFirstNamed, IsProvedName, IsShownRun, RunsOrFails, Stresses, StressesQueue, StressesUnshelved, first_values, run_version};
+ghost use Rattle.commands.specs.Stressing.{IsFirstNamed, IsPlanned, IsProvedName, IsShownRun, RunsOrFails, Stresses, StressesQueue, StressesUnshelved, first_values, run_version};
 
 use crate::histories::PIECES;
 use crate::judging::decide_under;
@@ -120,7 +119,7 @@ fn stress_shelved<'a, R: Threads + Sync>(
     run_plan(rt, alloc, &*shelved.queue, options)
 }
 
-/// Runs the seed's plan on a queue, and judges the recorded history.
+/// Runs the plan on a queue, and judges the recorded history.
 fn run_plan<'a, R: Threads + Sync>(
     rt: &R,
     alloc: Global,
@@ -157,22 +156,36 @@ fn stress_proved<'a, R: Threads + Wait + Sync>(
     judge_run(rt, alloc, &recorded, options.initial, options.condition)
 }
 
-/// Returns the seed's plan and the initial values.
+/// Returns the plan and the initial values.
 fn plan_of<'a>(alloc: Global, options: &StressOptions<'a>) -> Result<(Plan, Vec<u64>), AllocError>
     requires ranges { IsWithinRanges (settings_of options.now) }
     requires few { options.now.threads * options.now.operations ≤ MAX_OPERATIONS }
-    ensures seeded { IfOk result (λ made. IsSeeded options.now.seed options.now.threads options.now.operations options.now.percent made.0) }
+    ensures planned { IfOk result (λ made. IsPlanned (settings_of options.now) made.0) }
     ensures first { IfOk result (λ made. made.1.items ≡ first_values options.now.initial) }
 {
-    let plan = Plan::from_seed(
-        alloc,
-        options.seed,
-        options.threads,
-        options.operations,
-        options.percent,
-    )?;
+    let plan = make_plan(alloc, options)?;
     let initial = first_values(alloc, options.initial)?;
     Ok((plan, initial))
+}
+
+/// Makes the plan: without producers that of the seed, else one in which the first workers only enqueue and the others
+/// only dequeue.
+fn make_plan<'a>(alloc: Global, options: &StressOptions<'a>) -> Result<Plan, AllocError>
+    requires ranges { IsWithinRanges (settings_of options.now) }
+    requires few { options.now.threads * options.now.operations ≤ MAX_OPERATIONS }
+    ensures { IfOk result (IsPlanned (settings_of options.now)) }
+{
+    if options.producers == 0 {
+        return Plan::from_seed(
+            alloc,
+            options.seed,
+            options.threads,
+            options.operations,
+            options.percent,
+        );
+    }
+    let producers = options.producers.min(options.threads);
+    Plan::of_roles(alloc, options.threads, producers, options.operations)
 }
 
 /// Judges the recorded history of a run that began with `count` initial values.

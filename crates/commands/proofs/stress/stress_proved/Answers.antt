@@ -7,7 +7,7 @@ pub returns-clause-found : goal.returns-clause-found
 returns-clause-found g c = inl (
   omega arith,
   recorded_run _ _ (settings_of c.args.options.now) c.in_ok-plan.plan
-      c.in_ok-plan.ensures.seeded c.in_ok-recorded.recorded c.in_ok-recorded.ensures.recorded c.in_ok-recorded.ensures.lists
+      c.in_ok-plan.ensures.planned c.in_ok-recorded.recorded c.in_ok-recorded.ensures.recorded c.in_ok-recorded.ensures.lists
       c.deref.result.now (c.deref.ensures.value ∙ c.in_ok-plan.ensures.first) c.in_ok-recorded.ensures.replays (λ place below. tt) _
       c.judge_run.ensures.found,
 )
@@ -17,7 +17,7 @@ returns-in_err-recorded-clause-found g c =
     rw (carries c.from_residual-in_err-recorded.result _ c.from_residual-in_err-recorded.ensures.1) (inl (
       omega arith,
       failed_run _ _ (settings_of c.args.options.now) c.in_ok-plan.plan _ c.requires
-          c.in_ok-plan.ensures.seeded c.deref.result.now (c.deref.ensures.value ∙ c.in_ok-plan.ensures.first) c.in_err-recorded.ensures.fault
+          c.in_ok-plan.ensures.planned c.deref.result.now (c.deref.ensures.value ∙ c.in_ok-plan.ensures.first) c.in_err-recorded.ensures.fault
           (λ place is. absurd (c.in_err-recorded.ensures.preloads place (cc))),
     ))
 
