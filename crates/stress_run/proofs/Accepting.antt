@@ -1,4 +1,4 @@
--- A list under a lock, which the log leaves of what was there at first.
+-- The list under a lock: it is what the log leaves of the initial values.
 use Rattle.std.proofs.Common.{◌≡◌, ℕ, Bool, true, false, List, [], ◌∷◌, ◌++◌, Option, Some, None, refl, sym, ap, ◌∙◌, subst}
 use Rattle.std.specs.Prelude.{if◌then◌else◌, option_and_then, option_to_list, IsSome}
 use Rattle.std.proofs.lemmas.Bool.{eq-eqb}
@@ -13,7 +13,7 @@ use Rattle.history_merge.specs.Queue.{accept, accept_all, IsAccepted}
 use Rattle.stress_run.specs.Noted.{kind_noted, kinds_noted}
 use Rattle.recorder_core.proofs.Effects.{accept_more}
 
--- a note more, of an operation that is accepted
+-- one more note, of an operation that is accepted
 pub legal_more : (initial : List ℕ) (notes : List Note) (call : ℕ) (e : Effect) (look : ℕ) (s t : List ℕ)
     → accept_all initial (kinds_noted notes) ≡ Some s → accept s (kind_noted e) ≡ Some t
     → accept_all initial (kinds_noted (notes ++ note_at call e look ∷ [])) ≡ Some t
@@ -21,22 +21,22 @@ legal_more initial notes call e look s t legal one =
     ap (accept_all initial) (map-append (λ (n : Note). kind_noted n.effect) notes (note_at call e look ∷ []))
     ∙ accept_more initial (kinds_noted notes) (kind_noted e) s t legal one
 
--- a value that is put last is accepted
+-- a successful enqueue is accepted
 pub put_accepts : (old new : List ℕ) (v : ℕ) (b : Bool) → new ≡ (if b then old ++ v ∷ [] else old) → b ≡ true
     → accept old (kind_noted (effect.Enq v)) ≡ Some new
 put_accepts old new v b is taken = ap (λ (q : List ℕ). Some q) (sym (is ∙ ap (λ (c : Bool). if c then old ++ v ∷ [] else old) taken))
 
--- one that is refused changes nothing
+-- a failed enqueue is accepted, and changes nothing
 pub refusal_accepts : (old new : List ℕ) (v : ℕ) (b : Bool) → new ≡ (if b then old ++ v ∷ [] else old) → b ≡ false
     → accept old (kind_noted (effect.Not v)) ≡ Some new
 refusal_accepts old new v b is refused = ap (λ (q : List ℕ). Some q) (sym (is ∙ ap (λ (c : Bool). if c then old ++ v ∷ [] else old) refused))
 
--- what is taken out first is accepted
+-- a dequeue of the first value is accepted
 pub take_accepts : (old new : List ℕ) (v : ℕ) → old ≡ option_to_list (Some v) ++ new → accept old (kind_noted (effect.Deq v)) ≡ Some new
 take_accepts old new v is =
     ap (λ (q : List ℕ). accept q (kind_noted (effect.Deq v))) is ∙ ap (λ (b : Bool). if b then Some new else None) (eq-eqb v v refl)
 
--- nothing is taken out of an empty list
+-- a dequeue that finds the list empty is accepted
 pub none_accepts : (old new : List ℕ) → old ≡ [] → old ≡ option_to_list None ++ new → accept old (kind_noted effect.Empty) ≡ Some new
 none_accepts old new empty is = ap (λ (q : List ℕ). accept q (kind_noted effect.Empty)) empty ∙ ap (λ (q : List ℕ). Some q) (sym empty ∙ is)
 
@@ -61,6 +61,6 @@ same_queue queue (n ∷ notes) =
     by_first later None = refl
     by_first later (Some next) = later next
 
--- notes that leave a queue are of operations that it accepts
+-- if a queue accepts the effects of notes, it accepts the kinds of their operations
 pub noted_accepted : (queue : List ℕ) (notes : List Note) → IsSome (queue_after queue notes) → IsAccepted queue (kinds_noted notes)
 noted_accepted queue notes some_left = subst IsSome (same_queue queue notes) some_left

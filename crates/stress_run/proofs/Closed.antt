@@ -1,4 +1,4 @@
--- What is closed, and which fault stands, with one worker more.
+-- Closing the workers one by one, and the fault that stands.
 use Rattle.std.proofs.Common.{◌≡◌, ℕ, ◌+◌, List, [], ◌∷◌, ◌++◌, All, flat_map, IsPermutation, false, Option, Some, None, IfNone, IfSome, refl, ap}
 use Rattle.std.proofs.Common.{sym, subst, ◌∙◌, arith, append-nil, append_assoc, ◌⊎◌, inl, inr}
 use Rattle.std.proofs.lemmas.List.{map-append}
@@ -18,7 +18,7 @@ use Rattle.stress_run.specs.declared.faults.RunFault.{RunFault}
 use Rattle.stress_run.specs.declared.faults.RunFault.TheVariants.{Memory, Stalled}
 use Rattle.stress_run.proofs.Order.{not_after}
 
--- no worker is closed at first
+-- before the first worker is closed
 pub closed_none : (rest : PassView) → AreClosed rest [] [] rest
 closed_none rest = record {
   running = All-nil (λ (w : WorkerView). w.stopped ≡ false);
@@ -29,7 +29,7 @@ closed_none rest = record {
   noted = sym (append-nil rest.noted);
 }
 
--- one worker more is closed
+-- after one more worker is closed
 pub closed_more : (rest : PassView) (workers : List WorkerView) (tokens : List TokenView) (pass : PassView) (w : WorkerView)
     (tokens' : List TokenView) (pass' : PassView)
     → AreClosed rest workers tokens pass → w.stopped ≡ false → tokens' ≡ tokens ++ token_of w ∷ [] → pass'.key ≡ pass.key → pass'.left ≡ pass.left + w.pass.left
@@ -62,18 +62,18 @@ closed_more rest workers tokens pass w tokens' pass' p runs token key left drawn
     all = ap (λ l. rest.drawn ++ l) (flat_map-append drawn_of workers (w ∷ []) ∙ ap (λ l. flat_map drawn_of workers ++ l) (append-nil w.pass.drawn))
         ∙ sym (append_assoc rest.drawn (flat_map drawn_of workers) w.pass.drawn)
 
--- a result that is known if there is none
+-- a fact that follows if there is none
 pub at_none : {F : Type 0} (o : Option F) (Q : Type 0) → (o ≡ None → Q) → IfNone o Q
 at_none None Q f = f refl
 at_none (Some x) Q f = tt
 
--- what is known if there is none
+-- a fact that is known if there is none, and there is none
 pub none_of : {F : Type 0} (o : Option F) (P : Type 0) → o ≡ None → IfNone o P → P
 none_of None P e p = p
 none_of (Some x) P e p = cc
 
--- of the workers that are done: if no fault stands they are closed, and else it stands, and is not after that which stood first nor
--- after their stalls
+-- the workers that are done are closed, if no fault stands; a standing fault counts no later than the one that stood
+-- at first and than each stall of theirs
 pub record IsClosing (rest : PassView) (done : List WorkerView) (standing : Option RunFault) (tokens : List TokenView) (pass : PassView)
     (fault : Option RunFault) : Type 0 where
   pub closed : IfNone fault ((standing ≡ None) × AreClosed rest done tokens pass)
@@ -81,7 +81,7 @@ pub record IsClosing (rest : PassView) (done : List WorkerView) (standing : Opti
   pub stalls : IfSome fault (λ f. All (IsNotAfterStall f) done)
   pub stands : IfSome fault (Stands standing done)
 
--- no worker is being closed at first
+-- before the first worker is closed
 pub closing_none : (rest : PassView) (standing : Option RunFault) → IsClosing rest [] standing [] rest standing
 closing_none rest None = record { closed = (refl, closed_none rest); first = tt; stalls = tt; stands = tt }
 closing_none rest (Some f) = record { closed = tt; first = inr (refl, omega arith); stalls = All-nil (IsNotAfterStall f); stands = inl refl }
@@ -127,7 +127,7 @@ module _ (rest : PassView) (done : List WorkerView) (w : WorkerView) where
   still_stands standing fault (Some f) p (inr (inr own)) =
       inr (inr (w, Contains-push done w, own))
 
-  -- one worker more is closed: its token is kept, and the fault that counts is chosen
+  -- after one more worker is closed: its token is kept, and the fault that counts is chosen
   pub closing_more : (standing : Option RunFault) (tokens : List TokenView) (pass : PassView) (fault : Option RunFault) (tokens' : List TokenView)
       (pass' : PassView) (fault' : Option RunFault)
       → IsClosing rest done standing tokens pass fault
@@ -154,7 +154,7 @@ module _ (rest : PassView) (done : List WorkerView) (w : WorkerView) where
     stands = still_stands standing fault fault' p.stands stands;
   }
 
--- what is known of all workers when none is left to close
+-- after the last worker is closed
 pub all_closed : (rest : PassView) (workers done left : List WorkerView) (standing : Option RunFault) (tokens : List TokenView) (pass : PassView)
     (fault : Option RunFault) → workers ≡ done ++ left → left ≡ [] → IsClosing rest done standing tokens pass fault
     → IsClosing rest workers standing tokens pass fault

@@ -1,4 +1,4 @@
--- What a worker did first and what it did next, as one list of operations.
+-- The operations that a worker made first and next, as one list of operations.
 use Rattle.std.proofs.Common.{◌≡◌, ℕ, zero, suc, ◌+◌, ◌*◌, List, [], ◌∷◌, ◌++◌, length, map, refl, ap, sym, ◌∙◌, arith, subst, append_assoc}
 use Rattle.std.proofs.Common.{append-nil, length-append, take, drop, take-append-drop, get_or, ◌<◌, ◌≤◌, inl, inr, true, false}
 use Rattle.std.proofs.lemmas.List.{map-append, length-map}
@@ -46,7 +46,7 @@ rising-join (x ∷ z ∷ xs) ys r s above (suc k) h =
     subst (λ i. get_or (z ∷ xs ++ ys) k 0 < get_or (x ∷ z ∷ xs ++ ys) i 0) (sym next) more
 
 module _ (may : Question → Answer → Type 0) where
-  -- what stays over each of two parts stays over both
+  -- a worker that stays the same one in each of two parts stays the same one in both
   pub same_then : (w v u : WorkerView) → SameWorker w v → SameWorker v u → SameWorker w u
   same_then w v u p q = record {
     thread = q.thread ∙ p.thread;
@@ -83,7 +83,7 @@ module _ (may : Question → Answer → Type 0) where
     above = λ k d h. absurd (omega (arith, h));
   }
 
-  -- operations and then further ones are all of them
+  -- operations and then further ones are one list of operations
   pub works_then : (ks ls : List Kind) (w v u : WorkerView) → Works may ks w v → Works may ls v u → Works may (ks ++ ls) w u
   works_then ks ls w v u p q =
       let os = p.operates.operations in
@@ -128,7 +128,7 @@ module _ (may : Question → Answer → Type 0) where
       let P : List Kind → Type 0 = λ ks. Works may ks w u in
       subst P (sym e) (works_then (take i kinds) (get_or kinds i d ∷ []) w v u p q)
 
-  -- operations up to the last are all operations
+  -- operations up to the last one are all operations
   pub works_all : (kinds : List Kind) (i : ℕ) (w v : WorkerView) → length kinds ≤ i → i ≤ length kinds → Works may (take i kinds) w v → Works may kinds w v
   works_all kinds i w v past within p =
       let f : i ≡ length kinds = omega (arith, past, within) in
@@ -139,7 +139,7 @@ module _ (may : Question → Answer → Type 0) where
   pub works_or : (kinds : List Kind) (w v : WorkerView) → Works may kinds w v → WorksOrStalls may kinds w v
   works_or kinds w v p = inl p
 
-  -- a worker that stalls at an operation stalls
+  -- a worker that stalls in one of the operations stalls in the list
   pub stalls_at : (kinds : List Kind) (i : ℕ) (d : Kind) (w v u : WorkerView) → i < length kinds → Works may (take i kinds) w v
       → Stalls (get_or kinds i d) v u → WorksOrStalls may kinds w u
   stalls_at kinds i d w v u inside p q = inr (record {
@@ -157,12 +157,12 @@ module _ (may : Question → Answer → Type 0) where
   stays kinds w u (inl p) = p.same
   stays kinds w u (inr s) = same_then w s.until u s.works.same s.stalls.same
 
-  -- a worker that wasn't stopped made all operations
+  -- a worker that is not stopped made all operations
   pub runs : (kinds : List Kind) (w u : WorkerView) → WorksOrStalls may kinds w u → u.stopped ≡ false → Works may kinds w u
   runs kinds w u (inl p) e = p
   runs kinds w u (inr s) e = absurd (false≢true (sym e ∙ s.stalls.stopped))
 
-  -- a worker that is stopped after its row has sent as many events as its ring has room for, and fewer than its row has
+  -- if a new worker stalls, its row has more events than its ring has room for
   pub overflows : (kinds : List Kind) (w u : WorkerView) → WorksOrStalls may kinds w u → w.sent ≡ [] → w.stopped ≡ false → u.stopped ≡ true
       → w.capacity < 2 * length kinds
   overflows kinds w u (inl p) none ran stopped = absurd (false≢true (sym (p.running ∙ ran) ∙ stopped))

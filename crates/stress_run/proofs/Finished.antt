@@ -91,7 +91,7 @@ ends_threads : (workers : List WorkerView) → map (λ e. e.thread) (map end_of 
 ends_threads [] = refl
 ends_threads (w ∷ ws) = ap (λ l. w.thread ∷ l) (ends_threads ws)
 
--- rings that weren't drained have given nothing
+-- rings that were not drained have given nothing
 pub ends_fresh : (workers : List WorkerView) → All (λ e. e.received ≡ []) (map end_of workers)
 ends_fresh [] k d h = absurd (omega (arith, h))
 ends_fresh (w ∷ ws) zero d h = refl
@@ -102,7 +102,7 @@ module _ (key : TableId) (sizes : SizesView) (rows : List (List Kind)) (workers 
   pub crew_long : length workers ≡ length rows
   crew_long = AllZip-long (IsNew key sizes) rows workers crew.each
 
-  -- the ends are those of the threads in their order
+  -- the drain ends are in the order of their threads
   pub in_order : map (λ e. e.thread) (map end_of workers) ≡ numbers_below (length (map end_of workers))
   in_order = ends_threads workers ∙ crew.threads ∙ ap numbers_below (sym (length-map workers end_of ∙ crew_long))
 
@@ -150,7 +150,7 @@ module _ (key : TableId) (sizes : SizesView) (rows : List (List Kind)) (workers 
     after_long : length after ≡ length rows
     after_long = AllZip-long (WorksIn may rows) workers after worked ∙ crew_long
 
-    -- the worker that came to be the one at a place, and what it did
+    -- the worker at a place before the run, and what it did
     record Past (t : ℕ) (a : WorkerView) : Type 0 where
       pub w : WorkerView
       pub place_of : Place t w
@@ -226,7 +226,7 @@ module _ (key : TableId) (sizes : SizesView) (rows : List (List Kind)) (workers 
     pub rings : rings_of_tokens (map token_of after) ≡ rings_of (map end_of workers)
     rings = same_rings workers after (each_same workers after worked)
 
-    -- the tokens stand in the order of their threads
+    -- the tokens are in the order of their threads
     pub tokens_own : (tokens : List TokenView) → tokens ≡ map token_of after → map (λ t. t.thread) tokens ≡ numbers_below (length tokens)
     tokens_own tokens are =
         ap (map (λ (t : TokenView). t.thread)) are
@@ -330,7 +330,8 @@ module _ (key : TableId) (sizes : SizesView) (rows : List (List Kind)) (workers 
               omega (arith, size, left, none, shown, n));
         }
 
--- where only lack of memory stood before the end, what stands after it is lack of memory, or a fault of a worker that comes before all stalls
+-- if at most `Memory` stood before the end, the fault that stands after it is `Memory`, or a fault of a worker that
+-- counts before all stalls
 pub stands_at_end : (workers : List WorkerView) (standing : Option RunFault) (f : RunFault) → IfSome standing (λ g. g ≡ Memory) → Stands standing workers f
     → All (IsNotAfterStall f) workers → IsFaultOfClosing workers f
 stands_at_end workers None f memory (inl e) first = cc

@@ -1,8 +1,9 @@
 -- The way of the argument, from one operation to the lists of a run:
--- Once: one operation is a worker's whole work. Composed: what it did first and next, as one list.
--- Zipped, Places, Made: a crew with one worker more, each at its place.
--- Finished, Own, Closed, Order: workers that made their rows, tokens at their threads' places, closed rings, the least fault.
+-- Once: one operation of a worker. Composed: the operations that it made first and next, as one list.
+-- Zipped, Places, Made: a crew with one more worker, each at its place.
+-- Finished, Own, Closed, Order: workers after their rows, tokens at their places, closed rings, the least fault.
 -- Recording: the lists of a run are recorded lists, which replay.
+-- Accepting, Noting, Told, Ended: the notes of a proved queue are a log that it accepts, so its run is linearizable.
 mod Told
 mod Noting
 mod Accepting

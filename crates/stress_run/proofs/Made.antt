@@ -1,4 +1,4 @@
--- A crew with one worker more.
+-- A crew with one more worker.
 use Rattle.std.proofs.Common.{◌≡◌, ℕ, suc, ◌+◌, ◌*◌, ◌-◌, ◌<◌, ◌≤◌, List, [], ◌∷◌, ◌++◌, length}
 use Rattle.std.proofs.Common.{map, take, drop, get_or, sum_by, ap, sym, subst, ◌∙◌}
 use Rattle.std.proofs.Common.{refl, arith, add-one, length-append, length-take-le}
@@ -16,14 +16,14 @@ use Rattle.stress_run.specs.Inner.Crew.{end_of}
 use Rattle.recorder_core.proofs.Blocks.{range_more}
 use Rattle.history_merge.proofs.Lists.{one_more_zipped}
 
--- the workers of the first rows are made, and the pass has the shares of the others
+-- the workers of the first rows are made, and the pass has the shares of the other rows
 pub record IsMaking (key : TableId) (sizes : SizesView) (rows : List (List Kind)) (place : ℕ) (rest : PassView) (workers : List WorkerView)
     (ends : List DrainView) : Type 0 where
   pub crew : IsCrew key sizes (take place rows) workers
   pub ends_are : ends ≡ map end_of workers
   pub rest_is : rest ≡ fresh_pass key (2 * sum_by length (drop place rows))
 
--- no worker is made at first
+-- before the first worker is made
 pub made_none : (key : TableId) (sizes : SizesView) (rows : List (List Kind)) (rest : PassView) (workers : List WorkerView) (ends : List DrainView)
     → rest ≡ fresh_pass key (2 * sum_by length rows) → workers ≡ [] → ends ≡ [] → IsMaking key sizes rows 0 rest workers ends
 made_none key sizes rows rest workers ends is none no_ends = record {
@@ -32,7 +32,7 @@ made_none key sizes rows rest workers ends is none no_ends = record {
   rest_is = is;
 }
 
--- with a worker for each row the crew is whole, and nothing is left of the pass
+-- after the last worker is made: nothing is left of the pass
 pub made_all : (key : TableId) (sizes : SizesView) (rows : List (List Kind)) (place : ℕ) (rest : PassView) (workers : List WorkerView) (ends : List DrainView)
     → length rows ≤ place → IsMaking key sizes rows place rest workers ends
     → IsCrew key sizes rows workers × (rest ≡ fresh_pass key 0)
@@ -62,7 +62,7 @@ module _ (key : TableId) (sizes : SizesView) (rows : List (List Kind)) (place : 
   here d = ap (sum_by length) (drop-cons rows place d inside) ∙ sum_by-cons length (get_or rows place d) (drop (suc place) rows)
       ∙ ap (λ (n : ℕ). length (get_or rows place d) + sum_by length (drop n rows)) (sym (add-one place))
 
-  -- the rest of the pass is of the same tickets
+  -- the rest of the pass is of the same ticket word
   pub key_is : rest.key ≡ key
   key_is = ap (λ (r : PassView). r.key) p.rest_is
 
@@ -74,7 +74,7 @@ module _ (key : TableId) (sizes : SizesView) (rows : List (List Kind)) (place : 
       let same = ap (λ (r : List Kind). length r) is in
       omega (arith, left, sum, same)
 
-  -- one worker more is made, and its share is taken from the pass
+  -- after one more worker is made, whose share is taken from the pass
   pub made_more : (row : List Kind) (w : WorkerView) (rest' : PassView) (end : DrainView) (workers' : List WorkerView) (ends' : List DrainView)
       → row ≡ get_or rows place row → IsNew key sizes row w → w.thread ≡ place → end ≡ end_of w → rest' ≡ record rest { left = rest.left - 2 * length row }
       → workers' ≡ workers ++ w ∷ [] → ends' ≡ ends ++ end ∷ [] → IsMaking key sizes rows (place + 1) rest' workers' ends'

@@ -1,4 +1,4 @@
--- From workers that kept their notes to the notes of a run.
+-- From the notes of each worker to those of a run.
 use Rattle.std.proofs.Common.{◌≡◌, ℕ, zero, suc, ◌<◌, Bool, true, false, List, [], ◌∷◌, ◌++◌, length, map, All}
 use Rattle.std.proofs.Common.{flat_map, get_or, refl, ap, sym, subst, ◌∙◌, arith}
 use Rattle.std.proofs.lemmas.List.{length-map}
@@ -62,6 +62,6 @@ module _ (key : TableId) (sizes : SizesView) (notes : Bool) (on : notes ≡ true
         together = closed.noted ∙ joined_notes after;
       }
 
--- a pass that has done nothing
+-- a pass that has drawn and noted nothing
 pub new_pass : (p : PassView) (key : TableId) (n : ℕ) → p.key ≡ key → p.left ≡ n → p.drawn ≡ [] → p.noted ≡ [] → p ≡ fresh_pass key n
 new_pass p key n k left drawn noted = λ i. record { key = k i; left = left i; drawn = drawn i; noted = noted i }

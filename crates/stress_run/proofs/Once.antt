@@ -1,4 +1,4 @@
--- One operation as a worker's whole work.
+-- One operation of a worker.
 use Rattle.std.proofs.Common.{◌≡◌, ℕ, ◌+◌, ◌<◌, ◌≤◌, [], ◌∷◌, ◌++◌, length, All, refl, ap, sym, ◌∙◌}
 use Rattle.std.proofs.Common.{arith, subst, append_assoc, length-append, inl, inr}
 use Rattle.std.proofs.Common.{true, false}
@@ -106,7 +106,7 @@ stalls_after k w u q ret p asked s filled ran d m e =
       idle = λ h. absurd (false≢true (sym ran ∙ h));
     }
 
--- a stopped worker that stays as it is stalls
+-- a worker that was stopped before and is unchanged stalls
 pub stalls_still : (k : Kind) (w : WorkerView) → w.stopped ≡ true → w.capacity ≤ length w.sent → Stalls k w w
 stalls_still k w stopped filled = record {
   same = record { thread = refl; ring = refl; capacity = refl; tries = refl; key = refl; share = refl };
@@ -135,17 +135,17 @@ stalls_at_call k w b u p ticket asked opened ran draws counted ended filled =
       idle = λ h. absurd (false≢true (sym ran ∙ h));
     })
 
--- what holds anyhow holds if there is an error
+-- what holds in any case holds if there is an error
 pub on_err : {A E : Type 0} (r : Result A E) (P : Type 0) → P → OnErr r P
 on_err (Ok x) P p = tt
 on_err (Err e) P p = p
 
--- the pass holds the ticket that it drew last
+-- the pass has the ticket that it drew last
 pub drew_call : (held : List ℕ) (ticket : ℕ) (drawn : List ℕ) (call : ℕ) → drawn ≡ held ++ ticket ∷ [] → call ≡ ticket → Contains drawn call
 drew_call held ticket drawn call grown same =
     subst (λ (l : List ℕ). Contains l call) (sym grown) (subst (Contains (held ++ ticket ∷ [])) (sym same) (Contains-push held ticket))
 
--- one note more, of one operation more
+-- one more note, of one more operation
 notes_push : (es : List Event) (ns : List Note) (call ret : Event) (n : Note) → AreNotesOf es ns → IsNoteOf call ret n
     → AreNotesOf (es ++ call ∷ ret ∷ []) (ns ++ n ∷ [])
 notes_push [] [] call ret n h one = (one, tt)
@@ -154,7 +154,7 @@ notes_push (e ∷ []) ns call ret n h one = absurd h
 notes_push (e ∷ f ∷ es) [] call ret n h one = absurd h
 notes_push (e ∷ f ∷ es) (x ∷ ns) call ret n h one = (h.0, notes_push es ns call ret n h.1 one)
 
--- what a note says of an answer is what its operation did
+-- the note of an answer has the kind of its operation
 kind_is : (k : Kind) (q : Question) (a : Answer) → IsTrue (answers (call_what k (value_name q.thread q.number)) (return_what a))
     → kind_of (call_what k (value_name q.thread q.number)) (return_what a) ≡ Some (kind_noted (effect_of q a))
 kind_is Enq q Taken h = refl
@@ -170,19 +170,20 @@ all_last : (P : Note → Type 0) (ns : List Note) (n : Note) → All P (ns ++ n 
 all_last P [] n all = All-head P n [] all
 all_last P (x ∷ ns) n all = all_last P ns n (All-tail P x (ns ++ n ∷ []) all)
 
--- a worker that drew a ticket, and sent an event
+-- the worker after it drew a ticket and sent an event
 abbrev sent_by : PassView → Event → WorkerView → WorkerView
 sent_by p e w = record w { pass = p; sent = w.sent ++ e ∷ [] }
 
--- a worker that drew a ticket, asked at it as its n-th operation, and sent the call
+-- the worker after it drew a ticket, asked at it as its n-th question, and sent the call
 abbrev called_by : PassView → ℕ → Event → WorkerView → WorkerView
 called_by p n e w = record w { pass = p; asked = n; sent = w.sent ++ e ∷ [] }
 
--- a worker that drew a ticket, and stopped
+-- the worker after it drew a ticket and was stopped
 abbrev stopped_by : PassView → WorkerView → WorkerView
 stopped_by p w = record w { pass = p; stopped = true }
 
--- a worker opened at `b`, with the namer `n`, that draws, asks, and sends the call, so that it is at `v`; reopened there it draws again
+-- a worker opened at `b`, with the namer `n`: it draws, asks and sends the call, so that it is at `v`; reopened there
+-- it draws again
 module _ (k : Kind) (w b v b' u : WorkerView) (n : NamerView) (asked : ℕ) (d : DrawnView) (p r : PassView) (q : Question) (call returned : Event) (m : List Note)
     (opened : b ≡ w) (own : (n.thread ≡ b.thread) × (n.asked ≡ b.asked)) (draws : DrawsOne b.pass d.ticket p)
     (asks : (q ≡ next_question n k d) × (call ≡ call_event q) × (asked ≡ n.asked + 1))
@@ -235,7 +236,7 @@ module _ (k : Kind) (w b v b' u : WorkerView) (n : NamerView) (asked : ℕ) (d :
       )
       first_draw m (subst (DrawsOne (record p { noted = m }) returned.ticket) (sym (ap (λ x. x.pass) is)) second_draw)
 
-  -- it has one note more, if the queue notes its answers
+  -- it has one more note, if the queue notes its answers
   pub told_once : (notes : Bool) (a : Answered) → a.question ≡ q → returned ≡ return_event a returned.ticket
       → IsTrue (answers (call_event a.question).what returned.what) → u ≡ sent_by r returned b'
       → (notes ≡ true → NotesOne q a.answer b'.pass.noted m) → KeepsNotes notes w u

@@ -6,7 +6,7 @@ use Rattle.std.proofs.lemmas.List.Elements.{All-push}
 use Rattle.stress_run.specs.Faults.{IsNotAfter}
 use Rattle.stress_run.specs.declared.faults.RunFault.{RunFault}
 
--- faults are in one order
+-- the order of faults is transitive
 pub not_after : (f g h : RunFault) → IsNotAfter f g → IsNotAfter g h → IsNotAfter f h
 not_after f g h (inl a) (inl b) = inl (omega (arith, a, b))
 not_after f g h (inl a) (inr b) = inl (omega (arith, a, b.0))
@@ -19,7 +19,7 @@ module _ (faults : List RunFault) (place : ℕ) (inside : place < length faults)
   pub still_stands : Contains faults old → Contains faults new
   still_stands stands = elim either [ inl e ↦ subst (Contains faults) (sym e) stands | inr e ↦ subst (Contains faults) (sym e) (place, inside, sym is) ]
 
-  -- the lesser of the least so far and the next is the least of one more
+  -- the fault that counts of the least one so far and the next one is the least of one more
   pub still_least : All (IsNotAfter old) (take place faults) → IsNotAfter new old → IsNotAfter new fault → All (IsNotAfter new) (take (place + 1) faults)
   still_least all before at =
       let more = ap (λ (n : ℕ). take n faults) (add-one place) ∙ take-suc faults place fault inside

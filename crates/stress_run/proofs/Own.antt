@@ -1,4 +1,4 @@
--- Tokens that stand at their threads' places are refused only if memory runs out.
+-- Tokens at their threads' places are sealed, unless memory runs out.
 use Rattle.std.proofs.Common.{◌≡◌, ℕ, ◌<◌, List, ◌∷◌, ◌++◌, length, get_or, refl, ap, sym, ◌∙◌, arith, length-append}
 use Rattle.std.proofs.Math.Seq.{get_or-append_seam}
 use Rattle.std.proofs.lemmas.List.FromFn.{get_or-range_with_len, length-range_with_len}
@@ -25,7 +25,7 @@ module _ (tokens : List TokenView) (own : threads_of_tokens tokens ≡ numbers_b
       let here = ap (λ l. get_or l place 0) same in
       f.foreign (omega (arith, left, right, here))
 
-  -- the fault of a seal whose tokens are in their places is out of memory
+  -- if the tokens are in their places, the only fault of a seal is out of memory
   pub memory_alone : (error : CollectError) (fault : RunFault) → ((thread : ℕ) → error ≡ OfToken thread → IsFirstForeign tokens thread)
       → IsFaultOf error fault → fault ≡ Memory
   memory_alone OfMemory fault foreign is = is

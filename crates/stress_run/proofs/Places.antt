@@ -17,7 +17,7 @@ zip_at R (x ∷ xs) [] i z h = absurd z
 zip_at R (x ∷ xs) (y ∷ ys) zero z h = (x, y, (λ d. refl), (λ d. refl), z.0)
 zip_at R (x ∷ xs) (y ∷ ys) (suc i) z h = zip_at R xs ys i z.1 (omega (arith, h))
 
--- what a function gives of the element at a place
+-- a mapped list has the function's value of the element at a place
 pub map_at : {X Y : Type 0} (f : X → Y) (xs : List X) (i : ℕ) (x : X) (m : Y) → i < length xs → IsAt xs i x → get_or (map f xs) i m ≡ f x
 map_at f xs i x m h at = get_or-map f xs i x m h ∙ ap f (at x)
 
@@ -33,7 +33,7 @@ zip_of R (x ∷ xs) (y ∷ ys) e k = (
       (λ i a b h p q. k (suc i) a b (omega (arith, h)) p q),
 )
 
--- numbered elements have their places' numbers
+-- numbered elements have the numbers of their places
 pub numbered_at : {X : Type 0} (f : X → ℕ) (xs : List X) (n i : ℕ) (x : X) → map f xs ≡ numbers_below n → i < n → i < length xs → IsAt xs i x → f x ≡ i
 numbered_at f xs n i x e h inside at =
     let z : 0 + i ≡ i = omega arith in

@@ -1,4 +1,4 @@
--- A run whose queue holds its first values already has no fault about them.
+-- A run on a queue that holds its initial values already has no fault about them.
 use Rattle.std.proofs.Common.{◌≡◌, ◌+◌, ◌≤◌, ℕ, Bool, true, List, [], Err, arith, length, slice_index_or, subst, sym}
 use Rattle.std.proofs.lemmas.Bool.{cases_lt}
 use Rattle.stress_run.specs.Preloaded.{AreTaken, AreTakenBefore}
@@ -14,12 +14,12 @@ use Rattle.stress_run.specs.Faults.{IsWithinLimits}
 use Rattle.stress_run.specs.declared.faults.RunFault.{RunFault}
 use Rattle.stress_run.specs.declared.faults.RunFault.TheVariants.{Limit, Memory, Stalled, CloseLost, Uncertified, Preload}
 
--- one value more was taken
+-- one more value was enqueued
 pub one_more_taken : (may_preload : ℕ → ℕ → Bool → Type 0) (values : List ℕ) (count : ℕ) → AreTakenBefore may_preload values count
     → may_preload count (slice_index_or values count 0) true → AreTakenBefore may_preload values (count + 1)
 one_more_taken may_preload values count taken one place below = grind (arith, cases_lt)
 
--- no value is left
+-- all values were enqueued
 pub taken_to_end : (may_preload : ℕ → ℕ → Bool → Type 0) (values : List ℕ) (count : ℕ) → length values ≤ count → AreTakenBefore may_preload values count
     → AreTaken may_preload values
 taken_to_end may_preload values count all taken place below = taken place (omega (arith, all, below))
@@ -32,7 +32,7 @@ no_names = record {
 }
 
 module _ (may : Question → Answer → Type 0) (initial : List ℕ) (rows : List (List Kind)) (sizes : SizesView) where
-  -- its fault is one that a run from these values may have
+  -- its fault is one of a run from these initial values
   within_from : (fault : RunFault) → IsWithinLimits sizes.ring sizes.tries → IsFaultOfRun may [] rows sizes fault → IsFaultOfRun may initial rows sizes fault
   within_from Limit within is = absurd (is (within, no_names))
   within_from Memory within is = is
@@ -41,13 +41,13 @@ module _ (may : Question → Answer → Type 0) (initial : List ℕ) (rows : Lis
   within_from (Uncertified t) within is = is
   within_from (Preload place) within is = absurd (omega (arith, is))
 
-  -- and so it is with the sizes that were asked for
+  -- its fault is one of a run from these initial values with the sizes that were asked for
   pub fault_from : (asked : SizesView) (fault : RunFault) → sizes ≡ asked → IsWithinLimits asked.ring asked.tries → IsFaultOfRun may [] rows sizes fault
       → IsFaultOfRun may initial rows asked fault
   fault_from asked fault same within is = subst (λ s. IsFaultOfRun may initial rows s fault) same
       (within_from fault (subst (λ s. IsWithinLimits s.ring s.tries) (sym same) within) is)
 
--- it names no value that was refused
+-- its fault names no initial value
 pub names_no_value : {A : Type 0} (may : Question → Answer → Type 0) (rows : List (List Kind)) (sizes : SizesView) (result : Result A RunFault) (place : ℕ)
     → result ≡ Err (Preload place) → IfErr result (IsFaultOfRun may [] rows sizes) → ⊥
 names_no_value may rows sizes result place same is =

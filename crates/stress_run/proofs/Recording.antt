@@ -26,7 +26,7 @@ use Rattle.workloads.specs.Plans.{IsPlan}
 use Rattle.recorder_core.specs.Replay.{IsListOf, AreRecorded}
 use Rattle.stress_run.specs.Operations.{Completed, IsAsked, Operates, IsRun, events_of, ticket_of, tickets_of, asked_number, asked_kind}
 
--- a call and an answer of its kind take turns
+-- an answer of the kind of a call answers it
 answers_of_kind : (k : Kind) (v : ℕ) (a : Answer) → IsOfKind k a → IsTrue (answers (call_what k v) (return_what a))
 answers_of_kind Enq v Taken h = refl
 answers_of_kind Enq v Not h = refl
@@ -37,7 +37,7 @@ answers_of_kind Deq v Not h = absurd h
 answers_of_kind Deq v (Got x) h = refl
 answers_of_kind Deq v Empty h = refl
 
--- the value that a call gives is its own
+-- the value of a call to enqueue is the one that it was made with
 called : (k : Kind) (v value : ℕ) → call_what k v ≡ CallEnq value → value ≡ v
 called Enq v value e = cc
 called Deq v value e = cc
@@ -102,7 +102,7 @@ module _ (may : Question → Answer → Type 0) (t : ℕ) (key : TableId) where
       let number : first + 1 + n ≡ first + suc n = omega arith in
       named os (first + 1) n value call (All-tail Asked o os h) (tail_same _ _ _ _ e) later what ∙ ap (value_name t) number
 
-  -- what a worker's operations recorded is the list of its thread
+  -- the events of a worker's operations are a list of its thread
   pub is_list : (kinds : List Kind) (events : List Event) → length kinds ≤ MAX_THREAD_OPERATIONS → Operates may t key 0 kinds events
       → IsStrictlyIncreasing (tickets_of events) → IsListOf t events
   is_list kinds events short o rising =

@@ -1,4 +1,4 @@
--- A run whose notes are a legal log of its operations is linearizable.
+-- A run whose notes are a log that a queue accepts is linearizable.
 use Rattle.std.proofs.Common.{◌≡◌, ℕ, zero, suc, ◌+◌, ◌<◌, ◌≤◌, true, List, [], ◌∷◌}
 use Rattle.std.proofs.Common.{length, map, get_or, set, Option, Some, refl, sym, ap, ◌∙◌, subst, arith}
 use Rattle.std.specs.Prelude.{All, AllPairs, Contains, IsPermutation, find, flat_map, nat_eq}
@@ -40,7 +40,7 @@ note_in p = p.0
 abbrev made_in : Pair → Operation
 made_in p = p.1
 
--- the note says when the operation was called, what it did, and that it had not returned
+-- the note has the operation's call ticket and kind, and a look at which it had not returned
 record IsTold (p : Pair) : Type 0 where
   pub called : p.0.call ≡ p.1.call
   pub did : p.1.kind ≡ kind_noted p.0.effect
@@ -49,7 +49,7 @@ record IsTold (p : Pair) : Type 0 where
 abbrev pair_of : Event → Event → Note → Pair
 pair_of call ret n = (n, record { call = call.ticket; ret = ret.ticket; thread = call.thread; kind = kind_noted n.effect })
 
--- the notes of a thread, each with its operation
+-- the notes of a thread, each paired with its operation
 abbrev pairs : List Event → List Note → List Pair
 pairs [] ns = []
 pairs (call ∷ []) ns = []
@@ -98,7 +98,7 @@ all_blocks : {X : Type 0} (P : X → Type 0) (g : ℕ → List X) (n : ℕ) → 
 all_blocks P g zero each = All-nil P
 all_blocks P g (suc n) each = All-append P (blocks g n) (g n) (all_blocks P g n (λ t h. each t (omega (arith, h)))) (each n (omega arith))
 
--- lists one after the other are their blocks
+-- concatenated lists are their blocks
 flat_blocks : {X : Type 0} (parts : List (List X)) → flat_map (λ part. part) parts ≡ blocks (λ t. get_or parts t []) (length parts)
 flat_blocks {X} parts = ap (flat_map (λ (part : List X). part)) (sym (as_range parts)) ∙ joined_blocks (λ t. get_or parts t []) (length parts)
   where
@@ -128,7 +128,7 @@ moved : {X Y : Type 0} (f : X → Y) (xs : List X) (moves : List (ℕ × ℕ)) �
 moved f xs [] = refl
 moved {X} {Y} f xs (m ∷ ms) = exchanged f (apply_swaps xs ms) m.0 m.1 ∙ ap (λ (l : List Y). swap l m.0 m.1) (moved f xs ms)
 
--- a permutation of what a function gives is what it gives of a permutation
+-- a permutation of a mapped list is a mapped permutation of the list
 lifted : {X Y : Type 0} (f : X → Y) (xs : List X) (ys : List Y) → IsPermutation (map f xs) ys → (zs : List X) × IsPermutation xs zs × (map f zs ≡ ys)
 lifted f xs ys p = (
   apply_swaps xs p.moves,
@@ -136,7 +136,7 @@ lifted f xs ys p = (
   moved f xs p.moves ∙ sym p.is,
 )
 
--- notes at rising looks stand in the order of precedence
+-- notes whose looks rise are in an order that keeps precedence
 in_precedence : (from next : ℕ) (ps : List Pair) → LooksRise from (map note_in ps) next → All IsTold ps
     → AllPairs (λ earlier later. ¬ (Precedes later earlier)) (map made_in ps)
 in_precedence from next [] r told = λ i j d below within. absurd (omega (arith, within))
@@ -195,7 +195,7 @@ module _ (lists : List (List Event)) (notes log : List Note) (merged : List Even
       (same_permutation _ _ (blocks_same (λ t. operations_of (projection t merged)) (λ t. map made_in (pairs (list_at t) (part_at t))) (length lists) by_thread
       ∙ sym (map_blocks made_in (λ t. pairs (list_at t) (part_at t)) (length lists))))
 
-  -- the order of the log is a legal one
+  -- the order of the log is a linearization
   pub linearizable : (initial : List ℕ) (next : ℕ) → LooksRise 0 log next → IsAccepted initial (map (λ n. kind_noted n.effect) log)
       → IsLinearizable initial (operations_of merged)
   linearizable initial next rise accepted =

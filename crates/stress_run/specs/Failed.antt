@@ -1,4 +1,4 @@
--- Which faults a run may answer.
+-- The faults that a run may report.
 use Rattle.std.specs.Prelude.{ℕ, ◌<◌, ◌*◌, List, [], length, All, Contains, slice_index_or}
 use Rattle.std.specs.List.{AllZip}
 use Rattle.atomic_table.specs.Seated.{TableId}
@@ -12,7 +12,7 @@ use Rattle.stress_run.specs.Workers.{WorkerView, WorksIn}
 use Rattle.stress_run.specs.declared.faults.RunFault.{RunFault}
 use Rattle.stress_run.specs.declared.faults.RunFault.TheVariants.{Limit, Memory, Stalled, CloseLost, Uncertified, Preload}
 
--- new workers for these rows, each of which worked in its row; the fault is one of theirs, and no stall of theirs comes before it
+-- new workers made these rows, or stalled; the fault is one of theirs, and no stall of theirs counts before it
 pub record IsFaultAfter (may : Question → Answer → Type 0) (rows : List (List Kind)) (sizes : SizesView) (fault : RunFault) : Type 0 where
   pub key : TableId
   pub workers : List WorkerView
@@ -24,12 +24,13 @@ pub record IsFaultAfter (may : Question → Answer → Type 0) (rows : List (Lis
   pub is : IsFaultOfWorker fault faulty
   pub first : All (IsNotAfterStall fault) after
 
--- the row has more events than a ring of this size has room for
+-- the row of this thread has more events than a ring of this size has room for
 abbrev pub Overflows : List (List Kind) → SizesView → ℕ → Type 0
 Overflows rows sizes thread = sizes.ring < 2 * length (slice_index_or rows thread [])
 
--- the fault that a run may answer on a queue that holds these values at first: `Limit` if its sizes are out of range or the values may not be initial ones, `Memory`, a fault
--- of a worker of the plan after its row, or the place of one of the values; a row stalls only if it has more events than its ring has room for
+-- a fault that a run may report, on a queue that holds these values at first: `Limit` if its sizes are out of range or
+-- the values may not be initial ones, `Memory`, a fault of a worker of the plan after its row, or the place of one of
+-- the values. A row stalls only if it has more events than its ring has room for
 abbrev pub IsFaultOfRun : (Question → Answer → Type 0) → List ℕ → List (List Kind) → SizesView → RunFault → Type 0
 IsFaultOfRun may initial rows sizes Limit = ¬ (IsWithinLimits sizes.ring sizes.tries × AreInitialNames initial)
 IsFaultOfRun may initial rows sizes Memory = IsWithinLimits sizes.ring sizes.tries

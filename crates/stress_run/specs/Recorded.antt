@@ -2,7 +2,8 @@
 use Rattle.std.specs.Prelude.{ℕ, List}
 use Rattle.event_records.specs.declared.event.Event.{Event}
 
--- what the queue held first, the list of each thread, and how many tickets were drawn
+-- the values that the queue held at first, the list of events of each thread, and the number of tickets that were
+-- drawn
 pub record RecordedView : Type 0 where
   pub initial : List ℕ
   pub lists : List (List Event)

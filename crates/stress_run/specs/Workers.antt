@@ -1,4 +1,4 @@
--- What contracts see of a worker, and what its calls do.
+-- What contracts see of a worker, and what its operations do to it.
 use Rattle.std.specs.Prelude.{◌≡◌, ℕ, ◌+◌, ◌*◌, ◌≤◌, ◌<◌, List, [], ◌∷◌, ◌++◌, length, All, slice_index_or, Bool, true, ◌⊎◌}
 use Rattle.std.specs.List.Sorted.{IsStrictlyIncreasing}
 use Rattle.tickets.specs.Views.{PassView, share_of}
@@ -9,8 +9,8 @@ use Rattle.event_records.specs.declared.event.Event.{Event}
 use Rattle.event_rings.specs.Ring.{RingName}
 use Rattle.stress_run.specs.Operations.{Operates, tickets_of}
 
--- the pass, the thread, how many operations were asked, the ring, for how many events it has room, how often a push is tried, all that was
--- pushed, and whether the worker is stopped
+-- the pass, the thread, the number of questions that were asked, the ring, the number of events that it has room for,
+-- the number of tries of a push, all events that were pushed, and whether the worker is stopped
 pub record WorkerView : Type 0 where
   pub pass : PassView
   pub thread : ℕ
@@ -21,7 +21,7 @@ pub record WorkerView : Type 0 where
   pub sent : List Event
   pub stopped : Bool
 
--- the workers have one thread, ring and number of tries, and passes of one ticket word with one share
+-- both have the same thread, ring and number of tries, and passes of one ticket word with the same share
 pub record SameWorker (w w' : WorkerView) : Type 0 where
   pub thread : w'.thread ≡ w.thread
   pub ring : w'.ring ≡ w.ring
@@ -30,12 +30,12 @@ pub record SameWorker (w w' : WorkerView) : Type 0 where
   pub key : w'.pass.key ≡ w.pass.key
   pub share : share_of w'.pass ≡ share_of w.pass
 
--- each of these tickets is above all that were held
+-- each of these tickets is above all that are held
 abbrev pub AreAbove : List ℕ → List ℕ → Type 0
 AreAbove held tickets = All (λ ticket. All (λ t. t < ticket) held) tickets
 
--- the worker made operations of these kinds: it has sent their events, has drawn the tickets of these alone, in rising order and above all
--- that its pass held, and runs on
+-- the worker made operations of these kinds: it has sent their events, drew only their tickets, in rising order and
+-- above all tickets that its pass held, and is not stopped by them
 pub record Works (may : Question → Answer → Type 0) (kinds : List Kind) (w w' : WorkerView) : Type 0 where
   pub same : SameWorker w w'
   pub running : w'.stopped ≡ w.stopped
@@ -48,8 +48,9 @@ pub record Works (may : Question → Answer → Type 0) (kinds : List Kind) (w w
   pub rising : IsStrictlyIncreasing (tickets_of events)
   pub above : AreAbove w.pass.drawn (tickets_of events)
 
--- the worker is stopped, and has sent as many events as its ring has room for; it has sent nothing or the call of its next question alone,
--- has drawn two tickets at most and asked one question at most; one that was stopped before is as it was
+-- the worker is stopped, and has sent as many events as its ring has room for. Since before, it has sent nothing or
+-- only the call of its next question, has drawn at most two tickets and has asked at most one question. If it was
+-- stopped before, it is unchanged
 pub record Stalls (kind : Kind) (w w' : WorkerView) : Type 0 where
   pub same : SameWorker w w'
   pub stopped : w'.stopped ≡ true
@@ -77,6 +78,6 @@ WorksOrStalls may kinds w w' = Works may kinds w w' ⊎ StallsIn may kinds w w'
 abbrev pub row_of : List (List Kind) → WorkerView → List Kind
 row_of rows w = slice_index_or rows w.thread []
 
--- the worker made the operations of its row, or stalled in one of them
+-- the worker made the operations of its row of a plan, or stalled in one of them
 abbrev pub WorksIn : (Question → Answer → Type 0) → List (List Kind) → WorkerView → WorkerView → Type 0
 WorksIn may rows w w' = WorksOrStalls may (row_of rows w) w w'

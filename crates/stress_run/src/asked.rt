@@ -1,4 +1,4 @@
-// What a worker asks: a queue under test, or one that notes its answers in the log of the run.
+// The queue that a worker calls: one under test, or one that notes its answers in the log of the run.
 ghost use Rattle.std.specs.Prelude.{◌≡◌, Contains, Bool, true};
 ghost use Rattle.event_records.specs.Question.{Question};
 ghost use Rattle.event_records.specs.declared.kind.Answer.{Answer};
@@ -9,8 +9,8 @@ use event_records::{AnsweredDeq, AnsweredEnq, AskDeq, AskEnq};
 use queue_interface::TestQueue;
 use tickets::{Pass, Tickets};
 
-// A queue that workers ask. `may` is as of a `TestQueue`, `notes` whether each answer is noted by the asking pass, and
-// `of_word` of which ticket words its questions may be.
+// A queue that workers call. `may` is that of a `TestQueue`. `notes` says whether the calling pass notes each answer.
+// `of_word` says which ticket words the questions may be of.
 pub(crate) trait Asked {
     ghost may: { Self → Question → Answer → Type 0 };
 
@@ -18,7 +18,7 @@ pub(crate) trait Asked {
 
     ghost of_word: { Self → TicketsView → Type 0 };
 
-    // Answers a question to enqueue, which this pass drew the call ticket of.
+    // Answers a question to enqueue, whose call ticket this pass drew.
     fn enqueue(&self, ask: AskEnq, pass: &mut Pass, tickets: &Tickets) -> AnsweredEnq
         requires key { pass.old.key ≡ tickets.now.key }
         requires drew { Contains pass.old.drawn ask.call }
@@ -28,7 +28,7 @@ pub(crate) trait Asked {
         ensures pass { pass.new ≡ record pass.old { noted = pass.new.noted } }
         ensures noted { notes self.now ≡ true → NotesOne ask result.answer pass.old.noted pass.new.noted };
 
-    // Answers a question to dequeue.
+    // Answers a question to dequeue, whose call ticket this pass drew.
     fn dequeue(&self, ask: AskDeq, pass: &mut Pass, tickets: &Tickets) -> AnsweredDeq
         requires key { pass.old.key ≡ tickets.now.key }
         requires drew { Contains pass.old.drawn ask.call }

@@ -1,4 +1,4 @@
-// The end of a run: it closes the rings and joins the passes.
+// The end of a run, which closes the rings and joins the passes.
 ghost use Rattle.std.specs.Prelude.{◌≡◌, ◌⊎◌, ◌++◌, ◌∷◌, [], ◌+◌, IfOk, IfErr, IsOk, IsErr, OnErr, IfSome, IfNone, IsSome, Some, None, All};
 ghost use Rattle.std.specs.Prelude.{IsPermutation, false};
 ghost use Rattle.stress_run.specs.Crew.{IsFaultOfWorker, IsNotAfterStall, token_of};
@@ -12,7 +12,7 @@ use event_rings::CloseToken;
 use std::alloc::Global;
 use tickets::{Pass, Tickets};
 
-// What was closed so far, and the fault that the run has so far.
+// The close tokens and the joined pass of the workers that are closed, and the fault of the run so far.
 #[derive(Drop)]
 struct Closing {
     tokens: Vec<CloseToken>,
@@ -20,7 +20,7 @@ struct Closing {
     fault: Option<RunFault>,
 }
 
-// Returns the fault that counts if `fault` stands beside the one that the run has so far.
+// Returns the one of `fault` and the standing fault that counts.
 fn least_with(standing: Option<RunFault>, fault: RunFault) -> RunFault
     ensures either { (result ≡ fault) ⊎ (standing ≡ Some result) }
     ensures not_after { IsNotAfter result fault }
@@ -32,7 +32,8 @@ fn least_with(standing: Option<RunFault>, fault: RunFault) -> RunFault
     }
 }
 
-// Keeps the token of a thread's ring and joins its pass to the others, or notes that the ring gave none.
+// Keeps the close token of a thread's ring and joins its pass to the others, or sets a fault if the ring gave no
+// token.
 fn keep_closed(
     tickets: &Tickets,
     closing: Closing,
@@ -72,7 +73,7 @@ fn keep_closed(
     }
 }
 
-// Closes one worker's ring and joins its pass, also if the worker is stopped.
+// Closes one worker's ring and joins its pass, even if the worker is stopped.
 fn close_one(tickets: &Tickets, closing: Closing, worker: Worker) -> Closing
     requires pass { closing.pass.key ≡ tickets.now.key }
     requires worker { worker.pass.key ≡ tickets.now.key }
@@ -94,7 +95,7 @@ fn close_one(tickets: &Tickets, closing: Closing, worker: Worker) -> Closing
     keep_closed(tickets, closing, thread, worker.close())
 }
 
-// Closes the rings of all workers, whatever fault stands, and joins their passes to the rest.
+// Closes the rings of all workers, even if a fault stands, and joins their passes to the rest.
 pub(crate) fn close_all(
     alloc: Global,
     tickets: &Tickets,

@@ -16,7 +16,7 @@ use std::thread::Threads;
 use tickets::Tickets;
 use workloads::Row;
 
-// Makes operations of these kinds in turn, until one stalls.
+// Makes operations of these kinds in turn, and stops at the first that stalls.
 fn make_all<Q: Asked>(
     queue: &Q,
     tickets: &Tickets,
@@ -36,7 +36,7 @@ fn make_all<Q: Asked>(
     Ok(())
 }
 
-// Runs a worker on its row.
+// Runs a worker on a row, and returns it.
 fn work<Q: Asked>(
     queue: &Q,
     tickets: &Tickets,
@@ -50,12 +50,12 @@ fn work<Q: Asked>(
     ensures told { KeepsNotes (Q.notes queue.now) worker result }
 {
     let mut worker = worker;
-    // A worker that has stalled says so itself.
+    // A worker that stalled knows it itself.
     let _ = make_all(queue, tickets, &mut worker, kinds, is_abandoned);
     worker
 }
 
-// Runs a worker on its row of a plan.
+// Runs a worker on its row of a plan, and returns it.
 fn work_row<Q: Asked>(
     queue: &Q,
     tickets: &Tickets,
@@ -73,8 +73,8 @@ fn work_row<Q: Asked>(
 }
 
 // Runs each worker on its row of a plan, in a thread of its own, or one after another if no thread can be started.
-// They start together, as far as they meet. Once the flag is set nobody drains their rings, and a worker stalls at the first push
-// that finds no room. If memory runs out, the workers are gone.
+// They start together, if they meet in time. Once `is_abandoned` is set nothing drains their rings, and a worker
+// stalls at the first push that finds no room. The workers are lost if memory runs out.
 pub(crate) fn work_all<Q: Asked + Sync, R: Threads + Sync>(
     rt: &R,
     queue: &Q,

@@ -1,4 +1,4 @@
-// Why a run gave no history, and which of several faults counts.
+// The faults of a run, and which of several counts.
 ghost use Rattle.std.specs.Prelude.{◌≡◌, ◌≤◌, ◌⊎◌, ◌↔◌, [], length, All, Contains, IfSome, IsNone, true, false};
 ghost use Rattle.stress_run.specs.declared.faults.RunFault.TheVariants as made;
 ghost use Rattle.stress_run.specs.Faults.{number_of, place_of, name_of, place_in, IsNotAfter};
@@ -8,29 +8,30 @@ use std::alloc::AllocError;
 use std::error::Error;
 use std::fmt;
 
-/// Why a run gave no history.
+/// The reason why a run gave no history.
 ///
-/// Of several faults the one that stands first here counts, and of several threads with that fault the least.
+/// If there are several faults, the one that comes first in this list counts, and among those of one kind the one with
+/// the least thread.
 #[derive(Clone, Copy, Debug, PartialEq, Eq)]
 pub enum RunFault {
-    /// The capacity of the rings or the number of tries is out of range, or a queue may not hold such values before a
+    /// The capacity of the rings or the number of tries is out of range, or a queue may not hold these values before a
     /// run. No thread was started.
     Limit,
-    /// Memory ran out, also of the collector while the workers ran.
+    /// Out of memory, perhaps in the collector while the workers ran.
     Memory,
-    /// A push of this thread found no room in as many tries as it had.
+    /// A push of this thread found no room in all its tries.
     Stalled(u8),
     /// The ring of this thread gave no close token.
     CloseLost(u8),
     /// The token at its place didn't certify the ring of this thread.
     Uncertified(u8),
-    /// The queue didn't take the initial value at this place, from 0: it was full or out of memory. No thread was
-    /// started.
+    /// The enqueue of the initial value at this place, counted from 0, failed: the queue was full or out of memory. No
+    /// thread was started.
     Preload(usize),
 }
 
 impl RunFault {
-    /// Returns its name, which is printed before its thread or place.
+    /// Returns the name of the fault, which is printed before its thread or place.
     pub fn name(self) -> &'static str
         ensures short { length result.now ≤ 20 }
         ensures name { result.now ≡ name_of self }
@@ -45,7 +46,7 @@ impl RunFault {
         }
     }
 
-    /// Returns the thread that it names, or the place of an initial value.
+    /// Returns the thread that the fault names, or the place of an initial value; none if it names neither.
     pub fn place(self) -> Option<u64>
         ensures { result ≡ place_in self }
     {
@@ -58,7 +59,7 @@ impl RunFault {
         }
     }
 
-    // Returns its place in the order of faults.
+    // Returns the number of the fault in the order of faults.
     fn number(self) -> u8
         ensures { result ≡ number_of self }
     {
@@ -72,14 +73,14 @@ impl RunFault {
         }
     }
 
-    // Returns the thread or place that it names, or 0.
+    // Returns the thread or place that the fault names, or 0.
     fn place_or_zero(self) -> u64
         ensures { result ≡ place_of self }
     {
         self.place().unwrap_or(0)
     }
 
-    // Whether this fault counts if `other` stands too.
+    // Returns whether this fault counts if `other` stands too.
     fn is_not_after(self, other: RunFault) -> bool
         ensures yes { result ≡ true → IsNotAfter self other }
         ensures no { result ≡ false → IsNotAfter other self }
@@ -131,10 +132,10 @@ fn earlier(one: RunFault, other: RunFault) -> RunFault
     if one.is_not_after(other) { one } else { other }
 }
 
-/// Returns the fault that a run answers if these stand: that of the least number, and of these that of the least
-/// thread or place. It returns none if and only if there is no fault.
+/// Returns the fault that a run reports if all of these stand: the one with the least number, and among several with
+/// this number the one with the least thread or place. Returns none if and only if there is no fault.
 ///
-/// Takes no memory, and time in proportion to the faults.
+/// Takes no memory, and time in proportion to the number of faults.
 pub fn least_fault(faults: &[RunFault]) -> Option<RunFault>
     ensures none { IsNone result ↔ (faults.now ≡ []) }
     ensures stands { IfSome result (λ fault. Contains faults.now fault) }

@@ -1,9 +1,10 @@
-//! Workers that make the operations of a plan on a shared queue, each in a thread of its own, and the events that
-//! they record.
+//! Runs of a queue under test: workers make the operations of a plan on it, each in a thread of its own, and record
+//! events.
 //!
-//! A worker draws a ticket, asks the queue, draws another ticket, and pushes the call and the return into its ring. A
-//! collector drains the rings meanwhile. A run gives one list of events for each worker: all that it did, in order.
-//! `run_proved` makes its own queue, with one lock, two or none, whose recorded history is linearizable.
+//! For each operation, a worker draws a ticket, calls the queue, and draws another ticket. It pushes the call and the
+//! return into its ring, which a collector drains meanwhile. A run returns one list of events for each worker, with
+//! all that the worker did, in order. `run_proved` makes its own queue, with one lock, two or none, whose recorded
+//! history is linearizable.
 #![tactic(auto)]
 
 mod asked;
@@ -27,5 +28,5 @@ pub use start::Start;
 pub use worker::{Worker, WorkerFault, one_call};
 pub use workloads::{MAX_WORKERS, Plan};
 
-/// The most tries of a push.
+/// The maximum number of tries of a push.
 pub const MAX_TRIES: u32 = 10_000_000;

@@ -1,9 +1,9 @@
-// The queue that is proved, without a lock: a row of nodes beside the ticket word, which all workers share.
+// The proved queue without a lock: a row of nodes beside the ticket word, which all workers share.
 use crate::asked::Asked;
 use event_records::{AnsweredDeq, AnsweredEnq, AskDeq, AskEnq};
 use tickets::{Pass, Tickets};
 
-// The queue that the nodes beside the ticket word are. A worker needs nothing but its pass.
+// The queue of the nodes beside the ticket word. A worker needs only its pass to call it.
 #[derive(Drop)]
 pub(crate) struct LockFree;
 

@@ -1,4 +1,4 @@
-// The workers of a run, each with its thread, its share of the tickets and its ring.
+// The workers of a run, each with its thread, its share of the tickets, and its ring.
 ghost use Rattle.std.specs.Prelude.{◌≡◌, ◌-◌, ◌*◌, ◌≤◌, ◌<◌, ◌↔◌, [], length, map, sum_by, IfOk, IsSome, IfSome};
 ghost use Rattle.tickets.specs.Views.{fresh_pass};
 ghost use Rattle.workloads.specs.Plans.{IsPlan};
@@ -16,7 +16,7 @@ use std::marker::Model;
 use tickets::{Pass, Tickets};
 use workloads::Row;
 
-/// The capacity of each ring of a run, in events, and how often each push is tried.
+/// The capacity of each ring of a run, in events, and the number of tries of each push.
 #[derive(Clone, Copy)]
 pub(crate) struct Sizes {
     ring: usize,
@@ -37,7 +37,7 @@ impl Model for Sizes {
 }
 
 impl Sizes {
-    // Makes these sizes, or none if they are out of range.
+    // Returns these sizes, or none if they are out of range.
     pub(crate) fn new(ring: usize, tries: u32) -> Option<Sizes>
         ensures limits { IsSome result ↔ IsWithinLimits ring tries }
         ensures sizes { IfSome result (λ sizes. sizes ≡ record { ring = ring; tries = tries }) }
@@ -58,7 +58,7 @@ impl Sizes {
     }
 }
 
-// The workers of a run, the ends of their rings to drain, and the pass that no worker has.
+// The workers of a run, the drain ends of their rings, and what is left of the first pass.
 #[derive(Drop)]
 pub(crate) struct Crew {
     pub(crate) rest: Pass,
@@ -66,7 +66,7 @@ pub(crate) struct Crew {
     pub(crate) ends: Vec<DrainEnd>,
 }
 
-// Returns the thread of this place.
+// Returns the thread with this number.
 fn thread_at(place: usize) -> ThreadNo
     requires { place < MAX_THREADS }
     ensures { result ≡ place }
@@ -77,7 +77,7 @@ fn thread_at(place: usize) -> ThreadNo
     }
 }
 
-// Makes a worker for a row, its ring's other end, and the rest of the pass.
+// Makes a worker for a row, and returns it with the rest of the pass and the drain end of its ring.
 fn make_one(
     alloc: Global,
     tickets: &Tickets,

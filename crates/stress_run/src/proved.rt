@@ -1,4 +1,4 @@
-// The queue that is proved: a list under one lock, with the log of what was answered.
+// The proved queue with one lock: a list, with the log of its answers.
 ghost use Rattle.std.specs.Prelude.{◌≡◌, ◌++◌, ◌∷◌, [], ℕ, List, Contains, IfOk, IfErr, IfSome, IfNone, Some, map, if◌then◌else◌};
 ghost use Rattle.atomic_table.specs.Seated.{TableId};
 ghost use Rattle.event_records.specs.Question.{Question};
@@ -14,7 +14,8 @@ use std::marker::{Brand, PhantomData};
 use std::sync::{Mutex, Wait};
 use tickets::{Effect, Log, Pass, Tickets};
 
-// Which run a queue is of: its ticket word, and what the queue holds at first. Each run picks it.
+// The run that a queue belongs to: its ticket word, and the values that the queue holds at first. Each run chooses its
+// own.
 pub(crate) trait OfRun {
     ghost word: { TableId };
 
@@ -29,7 +30,7 @@ impl OfRun for Brand {
     ghost initial = { [] };
 }
 
-// What lies under the lock: the values, which are what the log leaves of those at first.
+// The data under the lock: the list of values, and the log, which leaves this list of the initial values.
 #[derive(Drop)]
 pub(crate) struct LockedLog<J: OfRun> {
     list: Fifo,
@@ -44,7 +45,7 @@ impl<J: OfRun> LockedLog<J> {
     ghost use Rattle.queue_interface.specs.Answers.{AnswersInKind};
     ghost use Rattle.stress_run.specs.Noted.{NotesOne};
 
-    // Puts the value of the question into the list, if memory allows, and notes the answer.
+    // Enqueues the value of the question, unless out of memory, and notes the answer.
     fn enqueue(&mut self, ask: AskEnq, pass: &mut Pass, tickets: &Tickets) -> AnsweredEnq
         requires key { (pass.old.key ≡ tickets.now.key) × (tickets.now.key ≡ J.word) }
         requires drew { Contains pass.old.drawn ask.call }
@@ -63,7 +64,7 @@ impl<J: OfRun> LockedLog<J> {
         }
     }
 
-    // Takes the first value out of the list, if there is one, and notes the answer.
+    // Dequeues the first value, if there is one, and notes the answer.
     fn dequeue(&mut self, ask: AskDeq, pass: &mut Pass, tickets: &Tickets) -> AnsweredDeq
         requires key { (pass.old.key ≡ tickets.now.key) × (tickets.now.key ≡ J.word) }
         requires drew { Contains pass.old.drawn ask.call }
@@ -85,7 +86,7 @@ impl<J: OfRun> LockedLog<J> {
     }
 }
 
-// A queue of one run: no other thread has it.
+// A queue that belongs to one run.
 #[derive(Drop)]
 pub(crate) struct Session<'r, J: OfRun, R: Wait> {
     rt: &'r R,
@@ -112,7 +113,7 @@ impl<'r, J: OfRun, R: Wait> Session<'r, J, R> {
         }
     }
 
-    // Returns the log, which the queue accepts from what it held at first.
+    // Returns the log. The queue accepts it from the values that it held at first.
     pub(crate) fn into_log(self) -> Log
         ensures key { result.key ≡ J.word }
         ensures accepted { IsAccepted J.initial (kinds_noted result.notes) }

@@ -1,4 +1,4 @@
-// A run over a queue that is proved.
+// Runs of proved queues.
 ghost use Rattle.std.specs.Prelude.{◌≡◌, ◌≢◌, ℕ, ◌*◌, ◌⊎◌, List, [], Err, length, sum_by, IfOk, IfErr};
 ghost use Rattle.event_records.specs.declared.event.Event.{Event};
 ghost use Rattle.history_merge.specs.Initial.{IsCompleteFrom};
@@ -34,19 +34,19 @@ use workloads::Plan;
 pub enum ProvedQueue {
     /// A list under one lock.
     OneLock,
-    /// The queue with two locks of Michael and Scott (1996). An enqueue takes the lock of the tail alone, a dequeue that
-    /// of the head. Both share a row of nodes, one for each initial value and operation, none of which is used twice: a
-    /// value is written into its node and then counted, and a dequeue finds the queue empty if as many were counted as
-    /// were taken.
+    /// The queue with two locks of Michael and Scott (1996). An enqueue takes only the lock of the tail, a dequeue
+    /// only that of the head. Both share a row of nodes, one for each initial value and operation, none of which is
+    /// used twice. An enqueue writes its value into a node and then counts it. A dequeue finds the queue empty if as
+    /// many values were counted as were dequeued.
     TwoLocks,
-    /// The queue without a lock of Michael and Scott (1996), on a row of nodes as that of `TwoLocks`. An enqueue exchanges
-    /// the mark of the first empty node for its value. A dequeue reads the first node that was not taken, and exchanges
-    /// the count of taken ones for the next. A call whose exchange fails goes on from what it found, so it waits for
-    /// nobody.
+    /// The queue without a lock of Michael and Scott (1996), on a row of nodes like that of `TwoLocks`. An enqueue
+    /// exchanges the mark of the first empty node for its value. A dequeue reads the first node whose value was not
+    /// dequeued, and exchanges the count of dequeued values for the next number. A call whose exchange fails goes on
+    /// from what it found, so it waits for nobody.
     LockFree,
 }
 
-// Returns these values as a list.
+// Copies these values into a list.
 fn listed(alloc: Global, values: &[u64]) -> Result<Fifo, AllocError>
     ensures { IfOk result (λ list. list ≡ values.now) }
 {
@@ -59,7 +59,7 @@ fn listed(alloc: Global, values: &[u64]) -> Result<Fifo, AllocError>
     Ok(list)
 }
 
-// Runs a plan on a queue of its own. The caller picks `J` for its run.
+// Runs a plan on a list under one lock, with these tickets and this log. The caller chooses `J` for its run.
 fn run_named<J: OfRun + Send + Sync, R: Threads + Wait + Sync>(
     rt: &R,
     alloc: Global,
@@ -90,7 +90,8 @@ fn run_named<J: OfRun + Send + Sync, R: Threads + Wait + Sync>(
     })
 }
 
-// Runs a plan on a queue of its own, whose nodes stand beside the ticket word. The caller picks `J` for its run.
+// Runs a plan on nodes with a lock for each end, which stand beside the ticket word. The caller chooses `J` for its
+// run.
 fn run_between<J: OfRun + Send + Sync, R: Threads + Wait + Sync>(
     rt: &R,
     alloc: Global,
@@ -120,7 +121,7 @@ fn run_between<J: OfRun + Send + Sync, R: Threads + Wait + Sync>(
     })
 }
 
-// Runs a plan on a list under one lock, which holds these values at first.
+// Runs a plan on a list under one lock, which holds the initial values at first.
 fn run_one_lock<R: Threads + Wait + Sync>(
     rt: &R,
     alloc: Global,
@@ -137,7 +138,7 @@ fn run_one_lock<R: Threads + Wait + Sync>(
     run_named::<Brand, R>(rt, alloc, named, initial, plan, sizes)
 }
 
-// Runs a plan on nodes with a lock for each end, which hold these values at first.
+// Runs a plan on nodes with a lock for each end, which hold the initial values at first.
 fn run_two_locks<R: Threads + Wait + Sync>(
     rt: &R,
     alloc: Global,
@@ -156,7 +157,7 @@ fn run_two_locks<R: Threads + Wait + Sync>(
     run_between::<Brand, R>(rt, alloc, named, initial, plan, sizes)
 }
 
-// Runs a plan on nodes without a lock, which hold these values at first.
+// Runs a plan on nodes without a lock, which hold the initial values at first.
 #[tactic(auto, using(crate::proofs::Ended::no_mark))]
 fn run_lock_free<R: Threads + Sync>(
     rt: &R,
@@ -187,7 +188,7 @@ fn run_lock_free<R: Threads + Sync>(
     })
 }
 
-// Runs a plan on this queue, which holds these values at first.
+// Runs a plan on this queue, which holds the initial values at first.
 fn run_held<R: Threads + Wait + Sync>(
     rt: &R,
     alloc: Global,
@@ -208,12 +209,12 @@ fn run_held<R: Threads + Wait + Sync>(
     }
 }
 
-/// Runs a plan on a proved queue, which is made for this run alone and holds these values at first. The recorded history
-/// is linearizable from them, whatever order the threads take.
+/// Runs a plan on a proved queue, which is made for this run alone and holds the initial values at first. The recorded
+/// history is linearizable from these values, whatever the schedule of the threads.
 ///
-/// Each answer is noted by the step that decides it. The notes exist in proofs alone; with a lock, each costs four to
-/// seven loads of the ticket word. Faults, waiting and memory are as of [`run_from`](crate::run_from), with the memory of the list or
-/// the nodes in place of the queue's; `Preload` never comes.
+/// The step that decides an answer also notes it. The notes exist only in proofs; with a lock, each costs four to
+/// seven loads of the ticket word. Faults, waiting and memory are those of [`run_from`](crate::run_from), with the
+/// memory of the list or the nodes in place of the queue's. `Preload` never comes.
 pub fn run_proved<R: Threads + Wait + Sync>(
     rt: &R,
     alloc: Global,

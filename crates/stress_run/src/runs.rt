@@ -1,4 +1,4 @@
-// A whole run, from a plan to the recorded lists.
+// A whole run, from a plan to the recorded lists of events.
 ghost use Rattle.std.specs.Prelude.{◌≡◌, ℕ, ◌<◌, ◌*◌, sum_by, ◌↔◌, ◌⊎◌, List, [], All, Err, None, Some, length, map, IfOk, IfErr, IfSome, true, false};
 ghost use Rattle.std.specs.List.{AllZip};
 ghost use Rattle.collector.specs.Ends.{rings_of, threads_of_tokens};
@@ -41,10 +41,11 @@ use std::thread::Threads;
 use tickets::{Pass, Tickets};
 use workloads::{Plan, Row};
 
-// The most times that the collector yields between two rounds.
+// Maximum number of yields of the collector between two rounds.
 const LONGEST_PAUSE: u32 = 64;
 
-/// The events of a run, one list for each worker, with what the queue held at first and how many tickets were drawn.
+/// The events of a run, one list for each worker, with the initial values of the queue and the number of tickets that
+/// were drawn.
 #[derive(Drop)]
 pub struct Recorded {
     pub(crate) initial: Vec<u64>,
@@ -71,7 +72,7 @@ impl Recorded {
     ghost use Rattle.recorder_core.specs.Initial.{AreInitialNames};
     ghost use Rattle.recorder_core.specs.Replay.{AreRecorded};
 
-    /// Returns what the queue held before the first operation, the front one first.
+    /// Returns the values that the queue held before the first operation, the front one first.
     pub fn initial(&self) -> &[u64]
         ensures values { result.now ≡ self.now.initial }
         ensures names { AreInitialNames self.now.initial }
@@ -79,7 +80,7 @@ impl Recorded {
         self.initial.as_slice()
     }
 
-    /// Returns the lists of events, that of worker 0 first.
+    /// Returns the lists of events, in the order of the workers.
     pub fn lists(&self) -> &Lists
         ensures lists { result.now ≡ self.now.lists }
         ensures recorded { AreRecorded self.now.lists }
@@ -87,10 +88,10 @@ impl Recorded {
         &self.lists
     }
 
-    /// Makes the history of the run: what its queue held at first, and its lists merged by ticket. The only error is
+    /// Makes the history of the run: the initial values of the queue, and the lists merged by ticket. Fails only if
     /// out of memory.
     ///
-    /// Time O(n log n) for n events, memory for them and for the history.
+    /// Takes time O(n log n) for n events, and memory for them and for the history.
     pub fn history(&self, alloc: Global) -> Result<History, AllocError>
         ensures initial { IfOk result (λ history. history.initial ≡ self.now.initial) }
         ensures merged { IfOk result (λ history. IsMerged self.now.lists history.events) }
@@ -99,7 +100,7 @@ impl Recorded {
         merged_from(alloc, self.initial.as_slice(), &self.lists)
     }
 
-    /// Returns the lists themselves, and takes no memory.
+    /// Returns the lists of events, and takes no memory.
     pub fn into_lists(self) -> Lists
         ensures { result ≡ self.lists }
     {
@@ -111,7 +112,7 @@ impl Recorded {
         lists
     }
 
-    /// Returns how many tickets were drawn: two for each operation.
+    /// Returns the number of tickets that were drawn: two for each operation.
     pub fn total(&self) -> u64
         ensures { result ≡ self.now.total }
     {
@@ -147,24 +148,30 @@ pub fn run<R: Threads + Sync>(
     run_from(rt, alloc, queue, &[], plan, ring, tries)
 }
 
-/// Puts the initial values into a shared queue, which is taken as empty, the front one first, and runs a plan on it.
-/// A worker in a thread of its own makes each row; its ring has room for `ring` events, and it tries each push
-/// `tries` times. A collector beside the workers drains the rings. Each worker waits for the others before its first
-/// operation, for a bounded number of turns.
+/// Enqueues the initial values in a shared queue, which is taken as empty, the front one first, and runs a plan on it.
+/// A worker in a thread of its own makes the operations of each row. Its ring has room for `ring` events, and it tries
+/// each push `tries` times. A collector drains the rings while the workers run. Each worker waits for the others
+/// before its first operation, for a bounded number of turns.
 ///
 /// If threads can't be started, the workers run one after another, under the same promise. Then nothing is drained
 /// while they run, and a worker with more events than its ring has room for stalls.
 ///
-/// A fault gives no history, and names a thread of the plan or an initial value. `Limit` and `Preload` come before
-/// any thread is started: `Limit` if a size is out of range, or if the values aren't distinct, each 2^38 or greater
-/// and at most 100,000, unless memory for this test is refused; `Preload` for the first value that the queue refuses.
-/// `Memory` comes if memory runs out; if the collector's does, each worker ends at the first push that finds no room.
-/// `Stalled` comes if a push finds no room in all its tries, between which the thread yields for longer and longer;
-/// it never comes for a row whose events all have room in its ring. `CloseLost` comes if a worker's ring gave no
-/// token after its row, and `Uncertified` never comes. The rings are closed whatever fault stands, unless the workers
-/// themselves were lost for lack of memory.
+/// A fault gives no history. It names a thread of the plan or an initial value, if it is about one:
 ///
-/// It waits for its workers, and so for the queue. It takes memory for the values, for the rings and for all events.
+/// - `Limit`, before any thread is started: a size is out of range, or the values may not be initial ones, which must
+///   be distinct, each 2^38 or greater, and at most 100,000 in number. If memory runs out in this test of the values,
+///   `Memory` comes instead.
+/// - `Preload`, before any thread is started: the queue failed to enqueue this value, the first such one.
+/// - `Memory`: out of memory. If the collector is, each worker ends at the first push that finds no room.
+/// - `Stalled`: a push found no room in all its tries, between which the thread yields for longer and longer. It never
+///   comes for a row whose events all have room in its ring.
+/// - `CloseLost`: a worker's ring gave no token after its row.
+/// - `Uncertified` never comes.
+///
+/// The rings are closed whatever fault stands, unless the workers themselves were lost for lack of memory.
+///
+/// The run waits for its workers, and so for the queue. It takes memory for the values, for the rings and for all
+/// events.
 ///
 /// The `queue` holds one value at first:
 ///
@@ -199,7 +206,7 @@ pub fn run_from<R: Threads + Sync>(
     run_within(rt, alloc, queue, held, plan, sizes)
 }
 
-// Returns the sizes, and a copy of the values that the queue is to hold at first, if a run may have them.
+// Returns the sizes and a copy of the initial values, if a run may have them.
 pub(crate) fn admitted(
     alloc: Global,
     initial: &[u64],
@@ -220,7 +227,7 @@ pub(crate) fn admitted(
     Ok((sizes, held))
 }
 
-// Puts the values into the queue in turn, up to one that it refuses.
+// Enqueues the values in turn, up to the first whose enqueue fails.
 fn preload_all(queue: &dyn TestQueue, initial: &[u64]) -> Result<(), RunFault>
     ensures taken { IfOk result (λ _. AreTaken (may_preload queue.now) initial.now) }
     ensures refused { IfErr result (λ fault. (place : ℕ) × (fault ≡ Preload place) × IsFirstRefused (may_preload queue.now) initial.now place) }
@@ -233,7 +240,7 @@ fn preload_all(queue: &dyn TestQueue, initial: &[u64]) -> Result<(), RunFault>
     Ok(())
 }
 
-// Runs a plan on a queue that holds these values, if the sizes are in range.
+// Runs a plan on a queue that holds the initial values already.
 fn run_within<R: Threads + Sync>(
     rt: &R,
     alloc: Global,
@@ -262,7 +269,7 @@ fn run_within<R: Threads + Sync>(
     })
 }
 
-// Runs a plan on what the workers ask, and returns the lists and the joined pass.
+// Runs a plan on the queue that the workers call, and returns the lists of events and the joined pass.
 pub(crate) fn run_on<Q: Asked + Sync, R: Threads + Sync>(
     rt: &R,
     alloc: Global,
@@ -295,7 +302,7 @@ pub(crate) fn run_on<Q: Asked + Sync, R: Threads + Sync>(
     close_and_seal(alloc, tickets, rest, workers, collector)
 }
 
-// Closes the rings of all workers, and returns the whole list of each, with the joined pass.
+// Closes the rings of all workers, and returns the whole list of events of each, with the joined pass.
 fn close_and_seal(
     alloc: Global,
     tickets: &Tickets,
@@ -316,13 +323,13 @@ fn close_and_seal(
     Ok((lists, pass))
 }
 
-// Returns how many events a row gives at most: two for each operation.
+// Returns the largest number of events of a row: two for each operation.
 fn most_events(rows: &[Row]) -> usize {
     let longest = rows.iter().map(|row| row.len()).max();
     longest.unwrap_or(0).saturating_mul(2)
 }
 
-// Returns the workers after their rows, and the collector, which drained their rings meanwhile.
+// Runs the workers on their rows while the collector drains their rings, and returns both.
 fn work_and_collect<Q: Asked + Sync, R: Threads + Sync>(
     rt: &R,
     queue: &Q,
@@ -354,13 +361,13 @@ fn work_and_collect<Q: Asked + Sync, R: Threads + Sync>(
     let collecting = move || -> Collector
         ensures { rings_of result.rings ≡ rings_of collector.rings }
     { collect_until(flag, is_abandoned, collector, sizes) };
-    // The second closure runs in this thread, and first if no other thread can be made: the flag is then set before
-    // the collector looks at it.
+    // The second closure runs in this thread, and runs first if no other thread can be made. Then the flag is set
+    // before the collector looks at it.
     let (collector, after) = thread::join(rt, collecting, working);
     Ok((after?, collector))
 }
 
-// Drains round after round until the workers are done, or until a round is refused memory: the rings are abandoned then.
+// Drains round after round until the workers are done. If a round runs out of memory, abandons the rings.
 fn collect_until(
     over: &AtomicBool,
     is_abandoned: &AtomicBool,
@@ -387,7 +394,7 @@ fn collect_until(
     collector
 }
 
-// Returns the fault that stands if a round was refused memory.
+// Returns the fault of the run if the collector ran out of memory in a round.
 fn standing_fault(collector: &Collector) -> Option<RunFault>
     ensures granted { result ≡ None → collector.now.refused ≡ false }
     ensures memory { IfSome result (λ fault. fault ≡ Memory) }
@@ -399,8 +406,8 @@ fn standing_fault(collector: &Collector) -> Option<RunFault>
     }
 }
 
-// Returns how often the collector yields after a round: not at all if it found much, so that a ring may soon be full,
-// otherwise twice as often as before.
+// Returns the number of yields after a round: none after one that drained a quarter of a ring or more, since a ring
+// may soon be full, otherwise twice as many as before.
 fn next_pause(pause: u32, drained: u64, sizes: Sizes) -> u32 {
     let much = (sizes.ring() as u64 / 4).max(1);
     if drained >= much {
@@ -410,7 +417,7 @@ fn next_pause(pause: u32, drained: u64, sizes: Sizes) -> u32 {
     }
 }
 
-// Lets other threads run this many times, or until the flag is set.
+// Yields this many times, or until the flag is set.
 fn rest(over: &AtomicBool, pause: u32) {
     for _ in 0..pause {
         if over.load(Ordering::SeqCst) {
@@ -420,7 +427,7 @@ fn rest(over: &AtomicBool, pause: u32) {
     }
 }
 
-// Returns the whole list of each thread, from a collector that was never refused memory.
+// Returns the whole list of events of each thread, from a collector that never ran out of memory.
 fn seal(collector: Collector, tokens: Vec<CloseToken>) -> Result<Lists, RunFault>
     requires rings { rings_of_tokens tokens.items ≡ rings_of collector.rings }
     requires order { threads_of_tokens tokens.items ≡ numbers_below (length tokens.items) }

@@ -1,4 +1,4 @@
-// The queue that is proved, with two locks: a row of nodes beside the ticket word, each of whose ends is under a lock.
+// The proved queue with two locks: a row of nodes beside the ticket word, with a lock for each end.
 ghost use Rattle.std.specs.Prelude.{◌≡◌, ◌++◌, ◌∷◌, Contains};
 ghost use Rattle.event_records.specs.Question.{Question};
 ghost use Rattle.queue_interface.specs.Answers.{AnswersInKind};
@@ -11,7 +11,7 @@ use std::marker::PhantomData;
 use std::sync::{Mutex, Wait};
 use tickets::{HeadEnd, Pass, TailEnd, Tickets};
 
-// What lies under the lock of the tail.
+// The data under the lock of the tail.
 #[derive(Drop)]
 pub(crate) struct Tail<J: OfRun> {
     end: TailEnd,
@@ -19,7 +19,7 @@ pub(crate) struct Tail<J: OfRun> {
     ghost word: { end ≡ J.word },
 }
 
-// What lies under the lock of the head.
+// The data under the lock of the head.
 #[derive(Drop)]
 pub(crate) struct Head<J: OfRun> {
     end: HeadEnd,
@@ -33,7 +33,7 @@ impl<J: OfRun> Tail<J> {
     ghost use Rattle.queue_interface.specs.Answers.{AnswersInKind};
     ghost use Rattle.stress_run.specs.Noted.{NotesOne};
 
-    // Puts the value of the question into the next node, if there is one, and notes the answer.
+    // Enqueues the value of the question in the next node, if there is one, and notes the answer.
     fn enqueue(&mut self, ask: AskEnq, pass: &mut Pass, tickets: &Tickets) -> AnsweredEnq
         requires key { (pass.old.key ≡ tickets.now.key) × (tickets.now.key ≡ J.word) }
         requires drew { Contains pass.old.drawn ask.call }
@@ -55,7 +55,7 @@ impl<J: OfRun> Head<J> {
     ghost use Rattle.queue_interface.specs.Answers.{AnswersInKind};
     ghost use Rattle.stress_run.specs.Noted.{NotesOne};
 
-    // Takes the value of the next node, if it has one, and notes the answer.
+    // Dequeues the value of the next node, if it holds one, and notes the answer.
     fn dequeue(&mut self, ask: AskDeq, pass: &mut Pass, tickets: &Tickets) -> AnsweredDeq
         requires key { (pass.old.key ≡ tickets.now.key) × (tickets.now.key ≡ J.word) }
         requires drew { Contains pass.old.drawn ask.call }
@@ -71,7 +71,7 @@ impl<J: OfRun> Head<J> {
     }
 }
 
-// A queue of one run, with a lock for each end.
+// A queue that belongs to one run, with a lock for each end.
 #[derive(Drop)]
 pub(crate) struct TwoLocks<'r, J: OfRun, R: Wait> {
     rt: &'r R,
@@ -82,7 +82,7 @@ pub(crate) struct TwoLocks<'r, J: OfRun, R: Wait> {
 impl<'r, J: OfRun, R: Wait> TwoLocks<'r, J, R> {
     ghost use Rattle.std.specs.Prelude.{◌≡◌};
 
-    // Makes the queue of these nodes.
+    // Makes the queue whose nodes have these ends.
     pub(crate) fn new(rt: &'r R, tail: TailEnd, head: HeadEnd) -> TwoLocks<'r, J, R>
         requires tail { tail ≡ J.word }
         requires head { (head.key ≡ J.word) × (head.initial ≡ J.initial) }

@@ -1,4 +1,4 @@
-// One worker: it draws tickets, asks the queue, and pushes what it did into its ring.
+// A worker, which draws tickets, calls the queue, and pushes what it did into its ring.
 ghost use Rattle.std.specs.Prelude.{◌≡◌, ◌+◌, ◌∷◌, ◌++◌, [], ◌≤◌, ◌<◌, Contains, IfOk, OnOk, OnErr, length, true, false};
 ghost use Rattle.event_records.specs.Question.{call_event, next_question};
 ghost use Rattle.event_records.specs.declared.limits.TheConstants.{NAMES_OF_A_THREAD};
@@ -18,10 +18,10 @@ use std::thread;
 use thiserror::Error;
 use tickets::{Drawn, Pass, Tickets};
 
-/// What one thread records with: its pass, its namer, and the push end of its ring.
+/// The tools with which one thread records: its pass, its namer, and the push end of its ring.
 ///
-/// Contracts see the pass, the thread, how many operations were asked, the ring with its capacity, the tries of a push, all
-/// events that were pushed, and whether the worker is stopped.
+/// Contracts see the pass, the thread, the number of questions that were asked, the ring with its capacity, the number
+/// of tries of a push, all events that were pushed, and whether the worker is stopped.
 #[derive(Drop)]
 pub struct Worker {
     pass: Pass,
@@ -59,7 +59,7 @@ pub(crate) enum AnyAsk {
     Deq(AskDeq),
 }
 
-/// Why a worker made no operation.
+/// The reason why a worker made no operation.
 #[derive(Clone, Copy, Debug, PartialEq, Eq, Error)]
 pub enum WorkerFault {
     /// A push of this call or of an earlier one found no room in all its tries.
@@ -67,13 +67,15 @@ pub enum WorkerFault {
     Stalled,
 }
 
-// This many tries in vain make a pause longer by one turn, up to the longest. A million of them take some seconds on an idle
-// machine, where a turn takes a tenth of a microsecond, and longer on a busy one: a collector that waits for a processor gets one.
+// The number of failed tries after which a pause gets longer by one turn, up to the longest. A million tries take some
+// seconds on an idle machine, where a turn takes a tenth of a microsecond, and longer on a busy one. So a collector
+// that waits for a processor gets one.
 const TRIES_TO_A_TURN: u32 = 512;
 
+// Maximum number of turns of a pause.
 const LONGEST_PAUSE: u32 = 32;
 
-// Pauses after this many tries in vain: yields to other threads, for longer and longer.
+// Pauses after this many failed tries: yields to other threads, for longer and longer.
 fn pause(tried: u32) {
     let turns = 1 + tried / TRIES_TO_A_TURN;
     for _ in 0..turns.min(LONGEST_PAUSE) {
@@ -81,7 +83,7 @@ fn pause(tried: u32) {
     }
 }
 
-// Pushes an event, and tries so up to `tries` times, or until nobody drains the ring any more. Between tries the thread pauses.
+// Pushes an event in at most `tries` tries, with pauses between them. Gives up early if nobody drains the ring.
 fn push_with_tries(
     ring: &mut PushEnd,
     noted: Noted,
@@ -109,7 +111,7 @@ fn push_with_tries(
 }
 
 impl Worker {
-    /// Makes a worker that is not stopped. The namer and the ring are of one thread, and there are 1 to 10,000,000
+    /// Makes a worker that is not stopped. The namer and the ring belong to one thread, and there are 1 to 10,000,000
     /// tries.
     pub fn new(pass: Pass, namer: Namer, ring: PushEnd, tries: u32) -> Worker
         requires thread { namer.thread ≡ ring.thread }
@@ -134,30 +136,30 @@ impl Worker {
         }
     }
 
-    /// Whether a push found no room in all its tries. A stopped worker makes no further operation.
+    /// Returns whether a push found no room in all its tries. A stopped worker makes no further operation.
     pub fn is_stopped(&self) -> bool
         ensures { result ≡ self.now.stopped }
     {
         self.stopped
     }
 
-    // Returns the thread that the worker's events are of.
+    // Returns the thread of the worker's events.
     pub(crate) fn thread(&self) -> u8
         ensures { result ≡ self.now.thread }
     {
         self.ring.thread().get()
     }
 
-    // Returns the place of the worker's row in a plan.
+    // Returns the place of the worker's row in a plan, which is its thread.
     pub(crate) fn place(&self) -> usize
         ensures { result ≡ self.now.thread }
     {
         self.ring.thread().get() as usize
     }
 
-    /// Closes the worker's ring, and returns its pass, also if the worker is stopped.
+    /// Closes the worker's ring, and returns the close token and the worker's pass, even if the worker is stopped.
     ///
-    /// `CloseLost` comes if the ring gave no token; the pass is then gone. It takes no memory.
+    /// Fails with `CloseLost` if the ring gave no token; the pass is then gone. Takes no memory.
     pub fn close(self) -> Result<(CloseToken, Pass), CloseLost>
         ensures token { IfOk result (λ r. r.0 ≡ token_of self) }
         ensures pass { IfOk result (λ r. r.1 ≡ self.pass) }
@@ -173,7 +175,7 @@ impl Worker {
         Ok((token, pass))
     }
 
-    // Pushes an event of this worker's thread, or stops.
+    // Pushes an event of this worker's thread. If this fails, the worker is stopped.
     fn record(&mut self, noted: Noted, is_abandoned: &AtomicBool) -> Result<(), WorkerFault>
         requires { noted.thread ≡ self.old.thread }
         ensures sent { OnOk result (self.new ≡ record self.old { sent = self.old.sent ++ noted ∷ [] }) }
@@ -186,7 +188,7 @@ impl Worker {
         pushed
     }
 
-    // Makes one operation of this kind, from the call's ticket to the event of its return.
+    // Makes one operation of this kind, from its call ticket to its return event.
     fn operate_once<Q: Asked>(
         &mut self,
         queue: &Q,
@@ -210,7 +212,7 @@ impl Worker {
     }
 }
 
-// Makes the question of the next operation of this kind, and its call event.
+// Returns the question of the next operation of this kind, and its call event.
 fn ask_next(namer: &mut Namer, kind: Kind, drawn: Drawn) -> (AnyAsk, Noted)
     requires { namer.old.asked < NAMES_OF_A_THREAD }
     ensures question { question_in result.0 ≡ next_question namer.old kind drawn }
@@ -229,7 +231,7 @@ fn ask_next(namer: &mut Namer, kind: Kind, drawn: Drawn) -> (AnyAsk, Noted)
     }
 }
 
-// Has the queue answer the question, and returns the event of its return.
+// Has the queue answer the question, and returns the return event.
 fn stamped_answer<Q: Asked>(queue: &Q, ask: AnyAsk, pass: &mut Pass, tickets: &Tickets) -> Noted
     requires key { (pass.old.key ≡ tickets.now.key) × ((question_in ask).key ≡ tickets.now.key) }
     requires drew { Contains pass.old.drawn (question_in ask).call }
@@ -249,14 +251,16 @@ fn stamped_answer<Q: Asked>(queue: &Q, ask: AnyAsk, pass: &mut Pass, tickets: &T
     }
 }
 
-/// Makes one operation on the queue, and its two events in the worker's ring.
+/// Makes one operation on the queue, and pushes its two events into the worker's ring.
 ///
-/// It draws the call ticket before it makes the question, and the return ticket when the answer is there. It pushes
-/// the call before it asks the queue, so a call that finds no room asks no queue; no contract says so. The pass is of
-/// these `Tickets` and has two tickets left, and the namer has asked fewer operations than a thread has names for.
+/// It draws the call ticket before it makes the question, and the return ticket after it has the answer. It pushes the
+/// call before it calls the queue, so if that push finds no room the queue is not called; no contract says so. The
+/// pass belongs to these `Tickets` and has two tickets left, and the namer has asked fewer questions than a thread has
+/// names for.
 ///
-/// `Stalled` comes if a push found no room in all tries of the worker, between which the thread yields for longer and
-/// longer; each later call returns it too, and draws nothing. It waits only if the queue does, and takes no memory.
+/// Fails with `Stalled` if a push found no room in all tries of the worker, between which the thread yields for longer
+/// and longer. Each later call fails with it too, and draws nothing. The call waits only if the queue does, and takes
+/// no memory.
 pub fn one_call(
     queue: &dyn TestQueue,
     tickets: &Tickets,
@@ -273,7 +277,7 @@ pub fn one_call(
     call_on(&queue, tickets, worker, kind, &AtomicBool::new(false))
 }
 
-// Makes one operation on what the worker asks.
+// Makes one operation on the queue that the worker calls.
 pub(crate) fn call_on<Q: Asked>(
     queue: &Q,
     tickets: &Tickets,

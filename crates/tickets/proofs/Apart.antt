@@ -1,4 +1,4 @@
--- The pass at a place, and the rest: what all passes hold, as that of one or two of them and of the others.
+-- The items of one or two passes, apart from those of the others.
 use Rattle.std.proofs.Common.{◌≡◌, ◌≢◌, ℕ, zero, suc, ◌<◌, List, [], ◌∷◌, ◌++◌, length, get_or, set, flat_map}
 use Rattle.std.proofs.Common.{IsPermutation, refl, sym, ap, subst, arith, append_assoc}
 use mathlib.Core.Option.{some, some-injective, some-ne-none}
@@ -7,7 +7,7 @@ use Rattle.std.proofs.lemmas.List.Sorted.{IsPermutation-refl, IsPermutation-tran
 use Rattle.std.proofs.lemmas.List.Sorted.{IsPermutation-append_right, IsPermutation-append_comm}
 use Rattle.tickets.specs.declared.account.Holding.{Holding}
 
--- a list between two others, moved to the front
+-- the second of three lists can be moved to the front
 to_front : {X : Type 0} (xs ys zs : List X) → IsPermutation (xs ++ (ys ++ zs)) (ys ++ (xs ++ zs))
 to_front {X} xs ys zs = subst (λ (l : List X). IsPermutation l (ys ++ (xs ++ zs))) (append_assoc xs ys zs)
     (subst (IsPermutation ((xs ++ ys) ++ zs)) (append_assoc ys xs zs) (IsPermutation-append_left zs (xs ++ ys) (ys ++ xs) (IsPermutation-append_comm xs ys)))
@@ -17,13 +17,13 @@ place_in [] i v e = absurd (some-ne-none v (sym e))
 place_in (x ∷ xs) zero v e = (omega arith, λ d. some-injective x v e)
 place_in (x ∷ xs) (suc i) v e = let r = place_in xs i v e in (omega (arith, r.0), r.1)
 
--- all that the passes hold, as what the pass at i holds and the others do, whatever that pass becomes
+-- the items of all passes are those of the pass at i and those of the others, also after that pass changed
 pub record OneApart {X : Type 0} (f : Holding → List X) (views : List Holding) (i : ℕ) (v : Holding) : Type 0 where
   pub others : List X
   pub before : IsPermutation (flat_map f views) (f v ++ others)
   pub after : (w : Holding) → IsPermutation (flat_map f (set views i w)) (f w ++ others)
 
--- more before a list with a part in front
+-- a list can be put after the first part of the list that follows it
 behind : {X : Type 0} (xs all ys zs : List X) → IsPermutation all (ys ++ zs) → IsPermutation (xs ++ all) (ys ++ (xs ++ zs))
 behind xs all ys zs p = IsPermutation-trans (xs ++ all) (xs ++ (ys ++ zs)) (ys ++ (xs ++ zs)) (IsPermutation-append_right xs all (ys ++ zs) p)
     (to_front xs ys zs)
@@ -46,7 +46,7 @@ one_apart f (x ∷ xs) (suc i) v e = let r = one_apart f xs i v e in record {
   after = λ w. behind (f x) (flat_map f (set xs i w)) (f w) r.others (r.after w);
 }
 
--- the same two facts for two passes
+-- the items of all passes are those of the passes at i and j and those of the others, also after the two changed
 pub record TwoApart {X : Type 0} (f : Holding → List X) (views : List Holding) (i j : ℕ) (v w : Holding) : Type 0 where
   pub others : List X
   pub before : IsPermutation (flat_map f views) (f v ++ (f w ++ others))

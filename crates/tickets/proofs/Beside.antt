@@ -1,4 +1,4 @@
--- Each step keeps the nodes that all passes share; and what stands beside the ticket word, of either form.
+-- Each step keeps the nodes that all passes share, and the words after the ticket word in either form.
 use Rattle.std.proofs.Common.{◌≡◌, ◌≢◌, ℕ, suc, ◌+◌, ◌<◌, ◌≤◌, Bool, true, false, List, [], ◌∷◌, ◌++◌, length, set, get_or, sum_by}
 use Rattle.std.proofs.Common.{refl, sym, ap, ◌∙◌, subst, arith, length-set, get_or-set_same, get_or-set_other}
 use Rattle.std.specs.Prelude.{Option, Some, None, if◌then◌else◌}
@@ -29,11 +29,11 @@ use Rattle.tickets.proofs.Rows.{counts-set, knowers_of, queue_more, nodes_same, 
 -- ---- the row
 
 module _ (initial row : List ℕ) (log : List Note) (f : AreFilled initial row log) where
-  -- how many nodes hold values
+  -- the number of nodes that hold values
   abbrev pub filled_count : ℕ
   filled_count = get_or row 1 0 + length f.queue
 
-  -- nodes before which all hold values are no more than those that do
+  -- a node before which all hold values is at most the first empty one
   pub full_within : (at : ℕ) → AreFullBefore row at → filled_count + 2 < length row → at ≤ filled_count
   full_within at before inside = by_order (cases_lt filled_count at)
     where
@@ -41,7 +41,7 @@ module _ (initial row : List ℕ) (log : List Note) (f : AreFilled initial row l
       by_order (inl less) = absurd (before filled_count less (f.empty filled_count (omega arith) inside))
       by_order (inr more) = more
 
-  -- an empty node is not before the end of those that hold values
+  -- an empty node is not before the first empty one
   pub empty_behind : (at : ℕ) → get_or row (at + 2) 0 ≡ NO_VALUE → filled_count ≤ at
   empty_behind at empty = by_order (cases_lt at filled_count)
     where
@@ -52,7 +52,7 @@ module _ (initial row : List ℕ) (log : List Note) (f : AreFilled initial row l
   pub room_left : filled_count + 2 < length row
   room_left = let within = f.within in omega arith
 
-  -- the value goes into the first empty node
+  -- the value is enqueued in the first empty node
   pub filled_pushed : (x call look at : ℕ) → AreFullBefore row at → get_or row (at + 2) 0 ≡ NO_VALUE → x ≢ NO_VALUE → at + 3 < length row
       → AreFilled initial (set row (at + 2) x) (log ++ note_at call (effect.Enq x) look ∷ [])
   filled_pushed x call look at before empty value room = record {
@@ -108,7 +108,7 @@ module _ (initial row : List ℕ) (log : List Note) (f : AreFilled initial row l
           f.full k (let apart = below_other k at h other in omega (arith, here))
           (sym (get_or-set_other row (at + 2) (k + 2) x 0 (λ e. other (omega arith))) ∙ bad)
 
-  -- the count that calls begin at goes on
+  -- the count at which enqueues begin is raised
   pub filled_hinted : (to : ℕ) → to ≤ filled_count → AreFilled initial (set row 0 to) log
   filled_hinted to low = record {
     queue = f.queue;
@@ -129,7 +129,7 @@ module _ (initial row : List ℕ) (log : List Note) (f : AreFilled initial row l
       other : (k : ℕ) → get_or (set row 0 to) (k + 2) 0 ≡ get_or row (k + 2) 0
       other k = get_or-set_other row 0 (k + 2) to 0 (λ e. absurd (omega arith))
 
-  -- nothing goes in
+  -- an enqueue fails
   pub filled_declined : (x call look : ℕ) → AreFilled initial row (log ++ note_at call (effect.Not x) look ∷ [])
   filled_declined x call look = record {
     queue = f.queue;
@@ -141,7 +141,7 @@ module _ (initial row : List ℕ) (log : List Note) (f : AreFilled initial row l
     empty = f.empty;
   }
 
-  -- the first node that was not taken is empty
+  -- the first node whose value was not dequeued is empty, so the queue is found empty
   pub filled_empty : (call look at : ℕ) → at ≤ get_or row 1 0 → get_or row (at + 2) 0 ≡ NO_VALUE
       → AreFilled initial row (log ++ note_at call effect.Empty look ∷ [])
   filled_empty call look at taken empty = record {
@@ -159,7 +159,7 @@ module _ (initial row : List ℕ) (log : List Note) (f : AreFilled initial row l
       found_empty [] none = refl
       found_empty (x ∷ xs) none = absurd (omega arith)
 
-  -- the first value goes out
+  -- the first value is dequeued
   pub filled_taken : (call look x at : ℕ) → at ≡ get_or row 1 0 → get_or row (at + 2) 0 ≡ x → x ≢ NO_VALUE
       → AreFilled initial (set row 1 (at + 1)) (log ++ note_at call (effect.Deq x) look ∷ [])
   filled_taken call look x at here holds value = by_queue f.queue f.legal f.hint f.within f.lies f.full f.empty
@@ -206,7 +206,7 @@ module _ (initial row : List ℕ) (log : List Note) (f : AreFilled initial row l
 
 -- ---- what passes know
 
--- a value goes into an empty node
+-- what a call knows stays true when a value is enqueued
 pub walk_pushed : (row : List ℕ) (x at : ℕ) → get_or row (at + 2) 0 ≡ NO_VALUE → x ≢ NO_VALUE → at + 2 < length row
     → (k : Option Walk) → FitsWalk row k → FitsWalk (set row (at + 2) x) k
 walk_pushed row x at empty value inside None fits = tt
@@ -228,7 +228,7 @@ walk_pushed row x at empty value inside (Some w) fits = (length-set row (at + 2)
       fits.2,
     )
 
--- one node more holds a value
+-- if all nodes before this one hold values, and this one does, then all nodes before the next one do
 pub full_more : (row : List ℕ) (at : ℕ) → AreFullBefore row at → get_or row (at + 2) 0 ≢ NO_VALUE → AreFullBefore row (at + 1)
 full_more row at before full k less bad = by_node (cases_lt k at)
   where
@@ -236,7 +236,7 @@ full_more row at before full k less bad = by_node (cases_lt k at)
     by_node (inl below) = before k below bad
     by_node (inr last) = let same : at ≡ k = omega arith in full (ap (λ (j : ℕ). get_or row (j + 2) 0) same ∙ bad)
 
--- a value is counted as taken
+-- what a call knows stays true when a value is counted as dequeued
 pub walk_taken : (row : List ℕ) (at : ℕ) → at ≡ get_or row 1 0 → 1 < length row → (k : Option Walk) → FitsWalk row k → FitsWalk (set row 1 (at + 1)) k
 walk_taken row at here wide None fits = tt
 walk_taken row at here wide (Some w) fits = (length-set row 1 (at + 1) ∙ fits.0, by_aim w.at w.aim fits.1)
@@ -252,7 +252,7 @@ walk_taken row at here wide (Some w) fits = (length-set row 1 (at + 1) ∙ fits.
     by_aim j Find fits = omega (arith, fits, second, here)
     by_aim j (Read y) fits = (omega (arith, fits.0, second, here), other j ∙ fits.1, fits.2)
 
--- the count that calls begin at goes on
+-- what a call knows stays true when the count at which enqueues begin changes
 pub walk_hinted : (row : List ℕ) (to : ℕ) (k : Option Walk) → FitsWalk row k → FitsWalk (set row 0 to) k
 walk_hinted row to None fits = tt
 walk_hinted row to (Some w) fits = (length-set row 0 to ∙ fits.0, by_aim w.at w.aim fits.1)
@@ -270,7 +270,7 @@ walk_hinted row to (Some w) fits = (length-set row 0 to ∙ fits.0, by_aim w.at 
 
 -- ---- the passes
 
--- nobody knows the log where nobody has a right
+-- if no pass has a right, no pass knows the log
 none_knows : (hs : List Holding) → sum_by rights hs ≡ 0 → sum_by knowers_of hs ≡ 0
 none_knows [] e = e
 none_knows (h ∷ hs) e =
@@ -279,7 +279,7 @@ none_knows (h ∷ hs) e =
     let rest = none_knows hs (omega arith) in
     omega arith
 
--- a pass among those of which none has a right
+-- if no pass has a right, the pass at i has none
 no_right : (views : List Holding) (i : ℕ) (v : Holding) → sum_by rights views ≡ 0 → get_elem? views i ≡ some v → rights v ≡ 0
 no_right views i v none at =
     let p = place_in views i v at in
@@ -291,7 +291,7 @@ module _ (initial : List ℕ) (room : ℕ) (row : List ℕ) (log : List Note) (v
   pub shared_unknown : sum_by knowers_of views ≡ 0
   shared_unknown = none_knows views n.none
 
-  -- a step of a pass
+  -- a step of a pass that keeps its rights
   pub shared_step : (i : ℕ) (v w : Holding) (more : List ℕ) (log' : List Note) → get_elem? views i ≡ some v → w.log ≡ v.log → w.tail ≡ v.tail → w.head ≡ v.head
       → ((k : Option Walk) → FitsWalk row k → FitsWalk more k) → FitsWalk more w.walk → length more ≡ length row → AreFilled initial more log'
       → AreShared initial room more log' (set views i w)
@@ -309,10 +309,10 @@ module _ (initial : List ℕ) (room : ℕ) (row : List ℕ) (log : List Note) (v
         filled = filled;
       }
 
--- ---- what stands beside the ticket word
+-- ---- the words after the ticket word
 
 module _ (setup : Setup) (row : List ℕ) (log : List Note) (views : List Holding) where
-  -- a pass with the same rights, at the same node
+  -- a pass changes, and keeps its rights and its call
   pub beside_same : AreBeside setup row log views → (i : ℕ) (v w : Holding) → get_elem? views i ≡ some v → w.log ≡ v.log → w.tail ≡ v.tail → w.head ≡ v.head
       → w.walk ≡ v.walk → AreBeside setup row log (set views i w)
   beside_same (inl n) i v w at same_log tail head walk = inl (n.0, nodes_same _ _ _ views n.1 i v w at same_log tail head)
@@ -323,7 +323,7 @@ module _ (setup : Setup) (row : List ℕ) (log : List Note) (views : List Holdin
             (subst (FitsWalk row) (sym walk) (at_place (λ h. FitsWalk row h.walk) views i v at n.1.walks)) refl n.1.filled,
       )
 
-  -- a pass whose rights are cut in two
+  -- a pass gives some of its rights to a new one
   pub beside_split : AreBeside setup row log views → (i : ℕ) (v left right : Holding) → get_elem? views i ≡ some v → knowers left.log + knowers right.log ≡ knowers v.log
       → holders left.tail + holders right.tail ≡ holders v.tail → holders left.head + holders right.head ≡ holders v.head
       → (FitsTail row v.tail → FitsTail row left.tail × FitsTail row right.tail)
@@ -347,7 +347,7 @@ module _ (setup : Setup) (row : List ℕ) (log : List Note) (views : List Holdin
         },
       )
 
-  -- a pass takes the rights of another, which is left with none
+  -- a pass takes the rights of another, which keeps none
   pub beside_join : AreBeside setup row log views → (i j : ℕ) (v w m s : Holding) → get_elem? views i ≡ some v → get_elem? (set views i m) j ≡ some w → get_elem? views j ≡ some w
       → knowers m.log + knowers s.log ≡ knowers v.log + knowers w.log → holders m.tail + holders s.tail ≡ holders v.tail + holders w.tail
       → holders m.head + holders s.head ≡ holders v.head + holders w.head
@@ -373,19 +373,19 @@ module _ (setup : Setup) (row : List ℕ) (log : List Note) (views : List Holdin
         },
       )
 
-  -- a note of who knows the log
+  -- the pass that knows the log adds a note
   pub beside_known : AreBeside setup row log views → (i : ℕ) (v w : Holding) (log' : List Note) → get_elem? views i ≡ some v → knowers v.log ≡ 1 → knowers w.log ≡ 1
       → w.tail ≡ v.tail → w.head ≡ v.head → AreBeside setup row log' (set views i w)
   beside_known (inl n) i v w log' at knows knows' tail head = inl (n.0, nodes_known _ _ _ views n.1 i v w log' at knows knows' tail head)
   beside_known (inr n) i v w log' at knows knows' tail head = let none = no_right views i v n.1.none at in absurd (omega arith)
 
-  -- the nodes have ends where a pass has one
+  -- if a pass has an end, the nodes have two ends
   pub ends_beside : AreBeside setup row log views → (i : ℕ) (v : Holding) → get_elem? views i ≡ some v → 0 < holders v.tail + holders v.head
       → (setup.is_shared ≡ false) × AreNodes (initial_of setup) row log views
   ends_beside (inl n) i v at has = n
   ends_beside (inr n) i v at has = let none = no_right views i v n.1.none at in absurd (omega arith)
 
-  -- nodes that passes share
+  -- if the setup says so, the nodes are those that all passes share
   pub shared_beside : AreBeside setup row log views → setup.is_shared ≡ true → AreShared (shared_initial setup) (shared_room setup) row log views
   shared_beside (inl n) shared = absurd (false≢true (sym n.0 ∙ shared))
   shared_beside (inr n) shared = n.1

@@ -32,7 +32,7 @@ use Rattle.tickets.proofs.Rows.{nodes_at_tail, nodes_at_head, nodes_unknown, nod
 use Rattle.tickets.proofs.Rows.{laid_staged, laid_pushed, laid_refused, laid_empty, laid_taken}
 use Rattle.tickets.proofs.Steps.{kept, kept_else, kept_seen, account_same, account_push, contains_some, drawn_below, HasNoEnd, first_word, others_idle, none_rise, first_plain}
 
--- a queue that holds something is not empty
+-- if the counts differ by the length of a queue and are not the same, the queue holds a value
 more_left : (t at : ℕ) (queue : List ℕ) → t ≢ at → t ≡ at + length queue → at < t
 more_left t at [] other count = absurd (other (omega arith))
 more_left t at (x ∷ rest) other count = omega arith
@@ -44,7 +44,7 @@ module _ (setup : Setup) where
 
   -- ---- the ends go from seat to seat
 
-  -- both ends go to a seat of their own
+  -- a split gives both ends a seat of their own
   pub parts : (id : ℕ) (v : Holding) → Splits (KeepsAccount setup) id v (without_ends v) (ends v.tail v.head)
   parts id v s r at =
       let n : ℕ = get_or s.words 0 0 in
@@ -58,7 +58,7 @@ module _ (setup : Setup) where
         },
       )
 
-  -- the head goes to a seat of its own
+  -- a split gives the head end a seat of its own
   pub parts_head : (id : ℕ) (v : Holding) → Splits (KeepsAccount setup) id v (record v { head = None }) (ends None v.head)
   parts_head id v s r at =
       let n : ℕ = get_or s.words 0 0 in
@@ -122,7 +122,7 @@ module _ (setup : Setup) where
         refl,
       )
 
-  -- the staged value goes in
+  -- the staged value is enqueued
   pub publishes : (slots id : ℕ) (me : Me (Unit {0}) Holding) (call at room x : ℕ) → me.0.tail ≡ Some (tail_at at room (Some x)) → at < room
       → Contains me.0.drawn call
       → Allows (KeepsAccount setup) slots id me 1 (λ _. at + 1) (λ _ after. Publishes call x at room me.0 after.0 × (after.1 ≡ me.1))
@@ -154,7 +154,7 @@ module _ (setup : Setup) where
         ((n, refl), refl),
       )
 
-  -- nothing goes in
+  -- the enqueue fails
   pub refuses : (slots id : ℕ) (me : Me (Unit {0}) Holding) (call at room x : ℕ) → me.0.tail ≡ Some (tail_at at room None) → Contains me.0.drawn call
       → Allows (KeepsAccount setup) slots id me 0 (λ n. n) (λ _ after. Refuses call x me.0 after.0 × (after.1 ≡ me.1))
   refuses slots id me call at room x has drew s r _ here _ =
@@ -179,7 +179,7 @@ module _ (setup : Setup) where
 
   -- ---- at the head
 
-  -- all that went in had gone out, or the next node holds a value
+  -- all enqueued values were dequeued, or the next node holds a value
   pub finds : (slots id : ℕ) (me : Me (Unit {0}) Holding) (call at room : ℕ) (initial : List ℕ) → me.0.head ≡ Some (head_at at room initial false)
       → Contains me.0.drawn call
       → Allows (KeepsAccount setup) slots id me 1 (λ n. n) (λ found after. FindsOne call at room initial me.0 found after.0 × (after.1 ≡ me.1))
@@ -244,7 +244,7 @@ module _ (setup : Setup) where
             (inr (some_left, omega arith, refl), refl),
           )
 
-  -- the first value goes out
+  -- the first value is dequeued
   pub reads : (slots id : ℕ) (me : Me (Unit {0}) Holding) (call at room : ℕ) (initial : List ℕ) → me.0.head ≡ Some (head_at at room initial true)
       → Contains me.0.drawn call
       → Allows (KeepsAccount setup) slots id me (at + 2) (λ n. n) (λ found after. Reads call at room initial me.0 found after.0 × (after.1 ≡ me.1))
@@ -279,7 +279,7 @@ module _ (setup : Setup) where
 
   -- ---- the end
 
-  -- a pass that has the whole budget and the head has noted the whole log, which is legal
+  -- a pass with the whole budget and the head end has noted the whole log, which a queue accepts
   pub settles_nodes : (id : ℕ) (v : Holding) (words : List ℕ) (slots : List (Unit {0})) (next at room : ℕ) (initial : List ℕ) → whole_of v ≡ setup.budget
       → v.head ≡ Some (head_at at room initial false) → Final (Seen (KeepsAccount setup) id v) words slots → get_elem? words 0 ≡ some next
       → (log : List Note) × IsPermutation v.noted log × LooksRise 0 log next × IsSome (queue_after initial log)
@@ -327,7 +327,7 @@ module _ (setup : Setup) where
       few_know None = omega arith
       few_know (Some log) = omega arith
 
-  -- a table with no nodes, whose first pass knows the log
+  -- a table without nodes, whose first pass knows the log
   pub opens : setup.has_nodes ≡ false → setup.is_shared ≡ false → setup.budget ≤ TICKET_LIMIT → KeepsAccount setup (opening (0 ∷ []) [] (first_of setup))
   opens none unshared limit = subst (λ (w : Holding). KeepsAccount setup (opening (0 ∷ []) [] w)) (sym (first_plain setup none unshared))
       (let v = with_known setup in (

@@ -27,7 +27,7 @@ all_left : {X : Type 0} (P : X → Type 0) (xs ys : List X) → All P (xs ++ ys)
 all_left P [] ys h = All-nil P
 all_left P (x ∷ xs) ys h = All-cons P x xs (All-head P x (xs ++ ys) h) (all_left P xs ys (All-tail P x (xs ++ ys) h))
 
--- what a pass has noted
+-- the notes of a pass
 abbrev pub noted_of : Holding → List Note
 noted_of h = h.noted
 
@@ -39,12 +39,12 @@ IsIdle h = h.drawn ≡ [] → h.noted ≡ []
 
 -- ---- looks
 
--- the looks rise to any later ticket
+-- if the looks rise to a ticket, they rise to each later one
 looks_later : (from : ℕ) (log : List Note) (next more : ℕ) → next ≤ more → LooksRise from log next → LooksRise from log more
 looks_later from [] next more h r = omega arith
 looks_later from (n ∷ ns) next more h r = (r.0, r.1, looks_later n.look ns next more h r.2)
 
--- a note at the next ticket goes last
+-- a note at the next ticket can be appended
 looks_push : (from : ℕ) (log : List Note) (next call : ℕ) (effect : Effect) → call < next → LooksRise from log next
     → LooksRise from (log ++ note_at call effect next ∷ []) next
 looks_push from [] next call effect h r = (h, r, omega arith)
@@ -70,7 +70,7 @@ none_know log [] e = All-nil (λ (h : Holding). Knows log h.log)
 none_know log (x ∷ xs) e = let split = sum_by-cons knowers_of x xs in
     All-cons (λ (h : Holding). Knows log h.log) x xs (knows_none log x.log (omega arith)) (none_know log xs (omega arith))
 
--- where the pass at i knows the log, no other does, and so all know whatever log that pass then knows
+-- if the pass at i knows the log, no other does, so the log may become any that this pass then knows
 one_knows : (log : List Note) (views : List Holding) (i : ℕ) (v w : Holding) → sum_by knowers_of views ≤ 1 → get_elem? views i ≡ some v
     → knowers v.log ≡ 1 → Knows log w.log → All (λ h. Knows log h.log) (set views i w)
 one_knows log [] i v w one at knows k = absurd (some-ne-none v (sym at))
@@ -103,7 +103,7 @@ knower h knows = ap knowers knows
 
 -- ---- the steps
 
--- a later ticket, and a pass with the same notes
+-- the next ticket grows, or a pass changes and keeps its notes
 pub logged_same : (next more : ℕ) (whole : List Note) (views : List Holding) (i : ℕ) (v w : Holding)
     → next ≤ more → IsLogged next whole views → get_elem? views i ≡ some v
     → w.noted ≡ v.noted → w.log ≡ v.log → (w.drawn ≡ [] → v.drawn ≡ []) → IsLogged more whole (set views i w)
@@ -125,7 +125,7 @@ logged_same next more whole views i v w later l at noted log drawn =
       rise = looks_later 0 whole next more later l.rise;
     }
 
--- one more pass, which has noted nothing and knows no log
+-- one more pass without notes, which does not know the log
 pub logged_push : (next : ℕ) (whole : List Note) (views : List Holding) (new : Holding) → IsLogged next whole views → new.noted ≡ []
     → new.log ≡ None → IsLogged next whole (views ++ new ∷ [])
 logged_push next whole views new l noted none =
@@ -142,7 +142,7 @@ logged_push next whole views new l noted none =
       rise = l.rise;
     }
 
--- the log goes from a pass to a seat of its own
+-- a pass gives the log to a seat of its own
 pub logged_lent : (next : ℕ) (whole : List Note) (views : List Holding) (i : ℕ) (v : Holding) → IsLogged next whole views → get_elem? views i ≡ some v → knows_log v
     → IsLogged next whole (set views i (without_log v) ++ logging (known_log v.log) ∷ [])
 logged_lent next whole views i v l at knows =
@@ -194,7 +194,7 @@ logged_taken next whole views i j v log l at there apart none =
       rise = l.rise;
     }
 
--- a pass takes in another
+-- a pass is joined to another
 pub logged_joined : (next : ℕ) (whole : List Note) (views : List Holding) (i j : ℕ) (v w : Holding) → IsLogged next whole views → get_elem? views i ≡ some v
     → get_elem? views j ≡ some w → j ≢ i → v.log ≡ None → w.log ≡ None → (merged v.drawn w.drawn ≡ [] → (v.drawn ≡ []) × (w.drawn ≡ []))
     → IsLogged next whole (set (set views i (put_together v w)) j (holding 0 [] []))
@@ -252,7 +252,7 @@ logged_noted next whole views i v call effect l at knows drew above =
       rise = looks_push 0 whole next call effect above l.rise;
     }
 
--- what a pass has noted has no look above the next ticket
+-- no look of a pass's notes is above the next ticket
 pub noted_within : (next : ℕ) (whole : List Note) (views : List Holding) (i : ℕ) (v : Holding) → IsLogged next whole views → get_elem? views i ≡ some v
     → All (λ n. n.look ≤ next) v.noted
 noted_within next whole views i v l at =
@@ -262,7 +262,7 @@ noted_within next whole views i v l at =
     all_left P v.noted apart.others (All-permutation P whole (v.noted ++ apart.others)
     (IsPermutation-trans whole all (v.noted ++ apart.others) (IsPermutation-sym all whole l.once) apart.before) (looks_within 0 whole next l.rise))
 
--- where nobody knows the log, any pass adds a note
+-- if no pass knows the log, any pass may add a note
 pub logged_more : (next : ℕ) (whole : List Note) (views : List Holding) (i : ℕ) (v w : Holding) (call : ℕ) (effect : Effect)
     → IsLogged next whole views → get_elem? views i ≡ some v
     → sum_by knowers_of views ≡ 0 → w.noted ≡ v.noted ++ note_at call effect next ∷ [] → w.log ≡ v.log → w.drawn ≡ v.drawn → v.drawn ≢ []
@@ -295,7 +295,7 @@ none_noted (h ∷ hs) none idle_all = λ k.
     (All-head IsIdle h hs idle_all (All-head (λ (g : Holding). g.drawn ≡ []) h hs none) k)
     ++ none_noted hs (All-tail (λ (g : Holding). g.drawn ≡ []) h hs none) (All-tail IsIdle h hs idle_all) k
 
--- where all others have noted nothing, a pass has noted the whole log
+-- if all others have drawn nothing, the notes of a pass are the whole log
 pub logged_all : (next : ℕ) (whole : List Note) (views : List Holding) (i : ℕ) (v : Holding) (l : IsLogged next whole views) → get_elem? views i ≡ some v
     → All (λ h. h.drawn ≡ []) (set views i (holding 0 [] [])) → IsPermutation v.noted whole
 logged_all next whole views i v l at idle =
@@ -310,7 +310,7 @@ logged_all next whole views i v l at idle =
     let alone = subst (λ (ns : List Note). IsPermutation all ns) (ap (λ (ns : List Note). v.noted ++ ns) empty ∙ append-nil v.noted) apart.before in
     IsPermutation-trans v.noted all whole (IsPermutation-sym all v.noted alone) l.once
 
--- and so does one that knows the log
+-- if all others have drawn nothing, the notes of the pass that knows the log are all that it knows
 pub logged_whole : (next : ℕ) (whole : List Note) (views : List Holding) (i : ℕ) (v : Holding) (l : IsLogged next whole views) → get_elem? views i ≡ some v → knows_log v
     → All (λ h. h.drawn ≡ []) (set views i (holding 0 [] [])) → IsPermutation v.noted (known_log v.log) × LooksRise 0 (known_log v.log) next
 logged_whole next whole views i v l at knows idle =

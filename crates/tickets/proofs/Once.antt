@@ -1,4 +1,4 @@
--- What the account says of two passes, and of each.
+-- From the account: no ticket is in two passes.
 use Rattle.std.proofs.Common.{◌≡◌, ℕ, zero, suc, ◌+◌, ◌<◌, ◌≤◌, List, [], ◌∷◌, ◌++◌, All, Contains, flat_map, sym, subst, arith}
 use Rattle.std.specs.Prelude.{Some, slice_get}
 use Rattle.std.proofs.lemmas.List.Elements.{All-nil, All-cons, All-tail}
@@ -9,7 +9,7 @@ use Rattle.tickets.specs.Views.{numbers_below}
 use Rattle.tickets.proofs.Rising.{times, times-cons, times-cons_same, times-append, times-permutation, times-range}
 use Rattle.tickets.proofs.Steps.{drawn_of, total, below_all, all_left}
 
--- what stands in a list stands there once at least
+-- a number in a list is there at least once
 at_least_once : (xs : List ℕ) (t : ℕ) → Contains xs t → 1 ≤ times t xs
 at_least_once [] t (k, inside, is) = absurd (omega arith)
 at_least_once (x ∷ xs) t (zero, inside, is) = let same = times-cons_same t xs in subst (λ (z : ℕ). 1 ≤ times t (z ∷ xs)) (sym is) (omega arith)
@@ -44,7 +44,7 @@ each_below next [] all = All-nil (λ (h : Holding). All (λ t. t < next) h.drawn
 each_below next (v ∷ vs) all = All-cons (λ (h : Holding). All (λ t. t < next) h.drawn) v vs
     (all_left (λ t. t < next) v.drawn (flat_map drawn_of vs) all) (each_below next vs (all_right (λ t. t < next) v.drawn (flat_map drawn_of vs) all))
 
--- passes that keep the account have drawn each number below the word once
+-- by the account, the passes have drawn each number below the word once
 pub drawn_once : (budget next : ℕ) (passes : List Holding) → IsAccount budget next passes → DrawnOnce next passes
 drawn_once budget next passes a = record {
   apart = λ i j t g h l e f here there.

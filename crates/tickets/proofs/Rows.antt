@@ -1,4 +1,4 @@
--- Each step keeps the nodes.
+-- Each step keeps nodes with two ends.
 use Rattle.std.proofs.Common.{◌≡◌, ℕ, zero, suc, ◌+◌, ◌<◌, ◌≤◌, Bool, List, [], ◌∷◌, ◌++◌, length, set, get_or, All, sum_by}
 use Rattle.std.proofs.Common.{refl, sym, ap, ◌∙◌, subst, arith, length-set, get_or-set_same, get_or-set_other}
 use Rattle.std.specs.Prelude.{Option, Some, None, option_and_then, if◌then◌else◌}
@@ -50,7 +50,7 @@ no_heads at initial row (x ∷ xs) e = let split = sum_by-cons head_rights x xs 
     All-cons (λ (h : Holding). FitsHead at initial row h.head) x xs (no_head_fits at initial row x.head (omega arith))
     (no_heads at initial row xs (omega arith))
 
--- where the pass at i may put, no other may, so all fit whatever row fits that pass
+-- if the pass at i may enqueue, no other may, so all fit each row that this pass fits
 one_tail_fits : (row : List ℕ) (views : List Holding) (i : ℕ) (v w : Holding) → sum_by tail_rights views ≤ 1 → get_elem? views i ≡ some v
     → holders v.tail ≡ 1 → FitsTail row w.tail → All (λ h. FitsTail row h.tail) (set views i w)
 one_tail_fits row [] i v w one at has fits = absurd (some-ne-none v (sym at))
@@ -81,7 +81,7 @@ one_head_fits to initial row (x ∷ xs) (suc i) v w one at has fits =
     All-cons (λ (h : Holding). FitsHead to initial row h.head) x (set xs i w) (no_head_fits to initial row x.head (omega arith))
     (one_head_fits to initial row xs i v w (omega arith) at has fits)
 
--- nobody knows the log where somebody may put
+-- if a pass has the tail end, no pass knows the log
 no_knower : (views : List Holding) (i : ℕ) (v : Holding) → sum_by tail_rights views ≤ 1 → get_elem? views i ≡ some v → holders v.tail ≡ 1
     → sum_by knowers_of views ≡ 0
 no_knower [] i v one at has = absurd (some-ne-none v (sym at))
@@ -126,7 +126,7 @@ no_knower_at_head (x ∷ xs) (suc i) v one at has =
     let rest = no_knower_at_head xs i v (omega arith) at has in
     omega arith
 
--- what the head knows is true of a row with more values
+-- what the head end knows stays true in a row with more values
 heads_later : (at : ℕ) (initial row more : List ℕ) (views : List Holding) → length more ≡ length row → get_or row 0 0 ≤ get_or more 0 0
     → All (λ h. FitsHead at initial row h.head) views → All (λ h. FitsHead at initial more h.head) views
 heads_later at initial row more [] long grows heads = All-nil (λ (h : Holding). FitsHead at initial more h.head)
@@ -139,7 +139,7 @@ heads_later at initial row more (x ∷ xs) long grows heads =
     later None fits = tt
     later (Some h) fits = (fits.0, fits.1, long ∙ fits.2, λ ready. let below = fits.3 ready in omega arith)
 
--- ---- what a queue holds after a note more
+-- ---- the queue after one more note
 
 pub queue_more : (queue : List ℕ) (log : List Note) (n : Note) (s t : List ℕ) → queue_after queue log ≡ Some s → queue_after_one s n.effect ≡ Some t
     → queue_after queue (log ++ n ∷ []) ≡ Some t
@@ -156,7 +156,7 @@ queue_more queue (m ∷ log) n s t e f = by_first (λ q g. queue_more q log n s 
 -- ---- what the nodes hold
 
 module _ (initial row : List ℕ) (log : List Note) (at : ℕ) (laid : IsLaid initial row log at) where
-  -- a value is written behind all that went in
+  -- a value is written into the node after all enqueued ones
   pub laid_staged : (x : ℕ) → IsLaid initial (set row (get_or row 0 0 + 1) x) log at
   laid_staged x =
       let t : ℕ = get_or row 0 0 in
@@ -172,7 +172,7 @@ module _ (initial row : List ℕ) (log : List Note) (at : ℕ) (laid : IsLaid in
         lies = λ i h. get_or-set_other row (t + 1) (at + i + 1) x 0 (λ e. absurd (omega arith)) ∙ laid.lies i h;
       }
 
-  -- the staged value goes in
+  -- the staged value is enqueued
   pub laid_pushed : (x call look : ℕ) → get_or row 0 0 + 1 < length row → get_or row (get_or row 0 0 + 1) 0 ≡ x
       → IsLaid initial (set row 0 (get_or row 0 0 + 1)) (log ++ note_at call (effect.Enq x) look ∷ []) at
   laid_pushed x call look room staged =
@@ -202,7 +202,7 @@ module _ (initial row : List ℕ) (log : List Note) (at : ℕ) (laid : IsLaid in
           let place : at + i + 1 ≡ get_or row 0 0 + 1 = omega arith in
           ap (λ (k : ℕ). get_or row k 0) place ∙ staged ∙ sym (get_or_push laid.queue x 0 i last)
 
-  -- nothing goes in
+  -- an enqueue fails
   pub laid_refused : (x call look : ℕ) → IsLaid initial row (log ++ note_at call (effect.Not x) look ∷ []) at
   laid_refused x call look = record {
     queue = laid.queue;
@@ -212,7 +212,7 @@ module _ (initial row : List ℕ) (log : List Note) (at : ℕ) (laid : IsLaid in
     lies = laid.lies;
   }
 
-  -- all that went in had gone out
+  -- all enqueued values were dequeued, so the queue is found empty
   pub laid_empty : (call look : ℕ) → get_or row 0 0 ≡ at → IsLaid initial row (log ++ note_at call effect.Empty look ∷ []) at
   laid_empty call look none = record {
     queue = laid.queue;
@@ -226,7 +226,7 @@ module _ (initial row : List ℕ) (log : List Note) (at : ℕ) (laid : IsLaid in
       found_empty [] count = refl
       found_empty (x ∷ xs) count = absurd (omega arith)
 
-  -- the first value goes out
+  -- the first value is dequeued
   pub laid_taken : (call look : ℕ) → at < get_or row 0 0 → IsLaid initial row (log ++ note_at call (effect.Deq (get_or row (at + 1) 0)) look ∷ []) (at + 1)
   laid_taken call look some_left = by_queue laid.queue laid.legal laid.count laid.lies
     where
@@ -264,7 +264,7 @@ module _ (initial row : List ℕ) (log : List Note) (views : List Holding) (n : 
     laid = λ none. n.laid (sym knows ∙ none);
   }
 
-  -- a pass with the same rights
+  -- a pass changes, and keeps its rights
   pub nodes_same : (i : ℕ) (v w : Holding) → get_elem? views i ≡ some v → w.log ≡ v.log → w.tail ≡ v.tail → w.head ≡ v.head
       → AreNodes initial row log (set views i w)
   nodes_same i v w at log_same tail head =
@@ -280,7 +280,7 @@ module _ (initial row : List ℕ) (log : List Note) (views : List Holding) (n : 
       (All-set (λ (h : Holding). FitsHead n.at initial row h.head) views i w
       (subst (FitsHead n.at initial row) (sym head) (at_place (λ h. FitsHead n.at initial row h.head) views i v at n.heads)) n.heads)
 
-  -- a pass whose rights are cut in two
+  -- a pass gives some of its rights to a new one
   pub nodes_split : (i : ℕ) (v left right : Holding) → get_elem? views i ≡ some v → knowers left.log + knowers right.log ≡ knowers v.log
       → holders left.tail + holders right.tail ≡ holders v.tail → holders left.head + holders right.head ≡ holders v.head
       → (FitsTail row v.tail → FitsTail row left.tail × FitsTail row right.tail)
@@ -301,7 +301,7 @@ module _ (initial row : List ℕ) (log : List Note) (views : List Holding) (n : 
       (All-push (λ (h : Holding). FitsHead n.at initial row h.head) first right
       (All-set (λ (h : Holding). FitsHead n.at initial row h.head) views i left heads.0 n.heads) heads.1)
 
-  -- a pass takes the rights of another, which is left with none
+  -- a pass takes the rights of another, which keeps none
   pub nodes_join : (i j : ℕ) (v w m s : Holding) → get_elem? views i ≡ some v → get_elem? (set views i m) j ≡ some w → get_elem? views j ≡ some w
       → knowers m.log + knowers s.log ≡ knowers v.log + knowers w.log → holders m.tail + holders s.tail ≡ holders v.tail + holders w.tail
       → holders m.head + holders s.head ≡ holders v.head + holders w.head
@@ -369,7 +369,7 @@ module _ (initial row : List ℕ) (log : List Note) (views : List Holding) (n : 
         laid = λ none. laid (n.laid (omega arith));
       }
 
-  -- a note of who knows the log
+  -- the pass that knows the log adds a note
   pub nodes_known : (i : ℕ) (v w : Holding) (log' : List Note) → get_elem? views i ≡ some v → knowers v.log ≡ 1 → knowers w.log ≡ 1
       → w.tail ≡ v.tail → w.head ≡ v.head → AreNodes initial row log' (set views i w)
   nodes_known i v w log' at knows knows' tail head =
@@ -399,7 +399,7 @@ module _ (initial row : List ℕ) (log : List Note) (views : List Holding) (n : 
       at_set (x ∷ xs) zero u w e = refl
       at_set (x ∷ xs) (suc k) u w e = at_set xs k u w e
 
-  -- nobody knows the log where somebody has an end
+  -- if a pass has the tail end, no pass knows the log
   pub nodes_unknown : (i : ℕ) (v : Holding) → get_elem? views i ≡ some v → holders v.tail ≡ 1 → sum_by knowers_of views ≡ 0
   nodes_unknown i v at has = no_knower views i v n.one_tail at has
 

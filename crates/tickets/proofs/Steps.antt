@@ -33,11 +33,11 @@ use Rattle.tickets.proofs.Apart.{place_in, one_apart, two_apart}
 use Rattle.tickets.proofs.Rising.{times, times-append, times-permutation, times-range, range-push, range-below, rises, increasing, RisesFrom-push}
 use Rattle.tickets.proofs.Rising.{all_below, IsPermutation-merged, RisesFrom-merged}
 
--- the numbers that a pass has drawn
+-- the tickets of a pass
 abbrev pub drawn_of : Holding → List ℕ
 drawn_of h = h.drawn
 
--- how many numbers a pass may still draw
+-- the number of tickets of a pass
 abbrev pub count_of : Holding → ℕ
 count_of h = length h.drawn
 
@@ -99,13 +99,13 @@ first_word (x ∷ xs) n e = some-injective x n e
 abbrev pub HasNoEnd : Holding → Type 0
 HasNoEnd h = (h.tail ≡ None) × (h.head ≡ None)
 
--- all passes together have drawn as many tickets as the next number says
+-- all passes together have as many tickets as the next number says
 pub total : (budget next : ℕ) (views : List Holding) → IsAccount budget next views → sum_by count_of views ≡ next
 total budget next views a = sym (length-flat_map drawn_of views) ∙ sym (length_permutation (flat_map drawn_of views) (numbers_below next) a.complete)
     ∙ length-range_with_len 0 next
 
 module _ (setup : Setup) where
-  -- a pass that may still draw keeps the next number below the budget
+  -- while a pass may still draw, the next number is below the budget
   room : (next : ℕ) (views : List Holding) (i : ℕ) (v : Holding) → IsAccount setup.budget next views → get_elem? views i ≡ some v → 0 < v.left → next < setup.budget
   room next views i v a at some_left =
       let none = holding 0 [] [] in
@@ -178,7 +178,7 @@ module _ (setup : Setup) where
         complete = subst (IsPermutation (flat_map drawn_of (set views i w))) pushed third;
       }
 
-  -- what a pass has drawn is below the next number
+  -- each ticket of a pass is below the next number
   pub drawn_below : (n : ℕ) (views : List Holding) (i : ℕ) (v : Holding) (t : ℕ) → IsAccount setup.budget n views → get_elem? views i ≡ some v
       → Contains v.drawn t → t < n
   drawn_below n views i v t a at drew =
@@ -188,7 +188,7 @@ module _ (setup : Setup) where
       let below = all_left (λ k. k < n) v.drawn apart.others (All-permutation (λ k. k < n) (numbers_below n) (v.drawn ++ apart.others) same (below_all n)) in
       All-contains (λ k. k < n) v.drawn t below drew
 
-  -- a draw is a step that keeps the account: the pass draws the word's number
+  -- a draw keeps the account, and gives the pass the word's number
   pub draws : (slots id : ℕ) (me : Me (Unit {0}) Holding) → 0 < me.0.left
       → Allows (KeepsAccount setup) slots id me 0 (λ n. (n + 1) % 2 ^ 64) (λ found after. DrawsNext me.0 found after.0 × (after.1 ≡ me.1))
   draws slots id me some_left s r _ at small =
@@ -216,7 +216,7 @@ module _ (setup : Setup) where
         ((omega arith, refl, below, omega arith, refl, refl, refl, refl, refl, noted_within n r.1.log s.views id v r.1.logged at), refl),
       )
 
-  -- a split keeps the account: the new pass has its share, and has drawn nothing
+  -- a split keeps the account, and gives the new pass its share and no tickets
   pub splits : (id : ℕ) (v : Holding) (n : ℕ) → n ≤ v.left
       → Splits (KeepsAccount setup) id v (record v { left = v.left - n }) (holding n [] [])
   splits id v n fits s r at =
@@ -251,7 +251,7 @@ module _ (setup : Setup) where
         },
       )
 
-  -- a join keeps the account: share, rest and tickets of both are put together
+  -- a join keeps the account, and puts the shares and tickets of both passes together
   pub joins : (id : ℕ) (v : Holding) (other : ℕ) (w : Holding) → v.log ≡ None → w.log ≡ None → HasNoEnd v → HasNoEnd w
       → Joins (KeepsAccount setup) id v other w (put_together v w) (holding 0 [] [])
   joins id v other w none none' no_end no_end' s r at apart there =
@@ -325,7 +325,7 @@ module _ (setup : Setup) where
         ((omega arith, rising_at s.views id me.0 at a.rising), refl),
       )
 
-  -- the pass that has the whole budget holds each number below the word once
+  -- the pass with the whole budget holds each number below the word once
   pub closes : (id : ℕ) (v : Holding) (words : List ℕ) (slots : List (Unit {0})) (next : ℕ) → whole_of v ≡ setup.budget
       → Final (Seen (KeepsAccount setup) id v) words slots → get_elem? words 0 ≡ some next → v.drawn ≡ numbers_below next
   closes id v words slots next whole f found =
@@ -347,7 +347,7 @@ module _ (setup : Setup) where
       (IsPermutation-sym (flat_map drawn_of s.views) v.drawn alone) a.complete in
       all_below (get_or s.words 0 0) v.drawn (rising_at s.views id v at a.rising) mine ∙ ap numbers_below last
 
-  -- a pass that draws as before
+  -- a pass changes, and keeps its share and its tickets
   pub account_same : (next : ℕ) (views : List Holding) (i : ℕ) (v w : Holding) → IsAccount setup.budget next views → get_elem? views i ≡ some v
       → w.left ≡ v.left → w.drawn ≡ v.drawn → IsAccount setup.budget next (set views i w)
   account_same next views i v w a at left drawn =
@@ -367,7 +367,7 @@ module _ (setup : Setup) where
             (IsPermutation-trans after (v.drawn ++ apart.others) all same (IsPermutation-sym all (v.drawn ++ apart.others) apart.before)) a.complete;
       }
 
-  -- one more pass with no share
+  -- one more pass without a share
   pub account_push : (next : ℕ) (views : List Holding) (new : Holding) → new.left ≡ 0 → new.drawn ≡ [] → IsAccount setup.budget next views
       → IsAccount setup.budget next (views ++ new ∷ [])
   account_push next views new none_left none_drawn a =
@@ -383,7 +383,7 @@ module _ (setup : Setup) where
         complete = subst (λ (l : List ℕ). IsPermutation l (numbers_below next)) longer a.complete;
       }
 
-  -- the log goes to a seat of its own
+  -- a split gives the log a seat of its own
   pub lends : (id : ℕ) (v : Holding) → knows_log v → Splits (KeepsAccount setup) id v (without_log v) (logging (known_log v.log))
   lends id v knows s r at =
       let n : ℕ = get_or s.words 0 0 in
@@ -416,7 +416,7 @@ module _ (setup : Setup) where
         },
       )
 
-  -- a note at a look
+  -- a look at the word adds a note to the log
   pub notes : (slots id : ℕ) (me : Me (Unit {0}) Holding) (call : ℕ) (effect : Effect) → knows_log me.0 → Contains me.0.drawn call
       → Allows (KeepsAccount setup) slots id me 0 (λ n. n) (λ found after. NotesAt call effect me.0 found after.0 × (after.1 ≡ me.1))
   notes slots id me call effect knows drew s r _ at _ =
@@ -440,7 +440,7 @@ module _ (setup : Setup) where
         ((refl, above, subst (All (λ (m : Note). m.look ≤ n)) (sym is) (looks_within 0 log n l.rise)), refl),
       )
 
-  -- beside a pass that has the whole budget nobody has drawn
+  -- if a pass has the whole budget, no other has drawn a ticket
   pub others_idle : (next : ℕ) (views : List Holding) (i : ℕ) (v : Holding) → IsAccount setup.budget next views → get_elem? views i ≡ some v
       → whole_of v ≡ setup.budget → All (λ h. h.drawn ≡ []) (set views i (holding 0 [] []))
   others_idle next views i v a at whole =
@@ -454,7 +454,7 @@ module _ (setup : Setup) where
       none_drawn (h ∷ hs) e = let split = sum_by-cons whole_of h hs in
           All-cons (λ (g : Holding). g.drawn ≡ []) h hs (nothing h.drawn (omega arith)) (none_drawn hs (omega arith))
 
-  -- the pass that has the whole budget, and knows the log, has noted all of it
+  -- the pass with the whole budget and the log has noted all of it
   pub settles : (id : ℕ) (v : Holding) (words : List ℕ) (slots : List (Unit {0})) (next : ℕ) → whole_of v ≡ setup.budget → knows_log v
       → Final (Seen (KeepsAccount setup) id v) words slots → get_elem? words 0 ≡ some next
       → IsPermutation v.noted (known_log v.log) × LooksRise 0 (known_log v.log) next
@@ -466,7 +466,7 @@ module _ (setup : Setup) where
       subst (λ (m : ℕ). IsPermutation v.noted (known_log v.log) × LooksRise 0 (known_log v.log) m) last
       (logged_whole n f.1.0.1.log s.views id v f.1.0.1.logged at knows (others_idle n s.views id v f.1.0.0.1 at whole))
 
--- the whole of two passes put together is the sum of their wholes
+-- the share of two joined passes is the sum of their shares
 pub whole_of-put_together : (v w : Holding) → whole_of (put_together v w) ≡ whole_of v + whole_of w
 whole_of-put_together v w =
     let long = length_permutation (v.drawn ++ w.drawn) (merged v.drawn w.drawn) (IsPermutation-merged v.drawn w.drawn) in
@@ -482,6 +482,6 @@ first_plain setup none unshared =
 pub first_knows : (v : Holding) (setup : Setup) → setup.has_nodes ≡ false → setup.is_shared ≡ false → v ≡ first_of setup → knows_log v
 first_knows v setup none unshared is = subst knows_log (sym (is ∙ first_plain setup none unshared)) refl
 
--- a pass that noted knows the log
+-- a pass knows the log after a note in it
 pub noted_knows : (v w : Holding) (call : ℕ) (effect : Effect) (look : ℕ) → w ≡ noting call effect look v → knows_log w
 noted_knows v w call effect look is = subst knows_log (sym is) refl

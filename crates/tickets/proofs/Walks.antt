@@ -33,11 +33,11 @@ use Rattle.tickets.proofs.Beside.{full_within, room_left, filled_pushed, filled_
 use Rattle.tickets.proofs.Beside.{walk_pushed, walk_taken, walk_hinted, full_more, shared_unknown, shared_step, shared_beside}
 use Rattle.tickets.proofs.Ends.{booked, opens_account, opens_log}
 
--- what holds of a walk holds of any that is the same
+-- what holds of the call of a pass holds of each call that is equal to it
 any_walk : (P : Walk → Type 0) (k : Option Walk) (w : Walk) → k ≡ Some w → P w → (w' : Walk) → k ≡ Some w' → P w'
 any_walk P k w is p w' is' = subst P (same_Some w w' (sym is ∙ is')) p
 
--- no more than another, and not the same
+-- a number that is at most another and differs from it is less
 less_than : (a b : ℕ) → a ≤ b → b ≢ a → a < b
 less_than a b low other = by_order (cases_lt a b)
   where
@@ -97,9 +97,9 @@ module _ (setup : Setup) (shared : setup.is_shared ≡ true) (slots id : ℕ) (m
         ((omega (arith, wide, is, within, second), refl), refl),
       )
 
-  -- ---- a value goes in
+  -- ---- an enqueue
 
-  -- the empty node gets the value, or there is a value
+  -- the value is enqueued in the empty node, or the node holds a value
   pub links_at : (call room at x : ℕ) → me.0.walk ≡ Some (walk_at call room at (Put x)) → at < room → x ≢ NO_VALUE → Contains me.0.drawn call
       → Allows (KeepsAccount setup) slots id me (at + 3) (λ n. either (eqb n NO_VALUE) x n)
       (λ found after. ((w : Walk) → me.0.walk ≡ Some w → LinksAt w x me.0 found after.0) × (after.1 ≡ me.1))
@@ -168,7 +168,7 @@ module _ (setup : Setup) (shared : setup.is_shared ≡ true) (slots id : ℕ) (m
             (any_walk (λ k. LinksAt k x v found u) v.walk (walk_at call room at (Put x)) has (inr (ne, refl)), refl),
           )
 
-  -- the count that calls begin at goes on by one; the call stays at its node, or ends
+  -- the count at which enqueues begin is raised by one; the call stays at its node, or ends
   pub helps_at : (call room at x : ℕ) (k : Option Walk) → me.0.walk ≡ Some (walk_at call room (at + 1) (Put x))
       → ((row : List ℕ) → FitsWalk row me.0.walk → FitsWalk row k)
       → Allows (KeepsAccount setup) slots id me 1 (λ n. either (eqb n at) (at + 1) n) (λ _ after. after ≡ (record me.0 { walk = k }, me.1))
@@ -227,7 +227,7 @@ module _ (setup : Setup) (shared : setup.is_shared ≡ true) (slots id : ℕ) (m
             refl,
           )
 
-  -- no value goes in
+  -- the enqueue fails
   pub declines_at : (w : Walk) → me.0.walk ≡ Some w → Contains me.0.drawn w.call
       → Allows (KeepsAccount setup) slots id me 0 (λ n. n) (λ _ after. ((w : Walk) → me.0.walk ≡ Some w → DeclinesAt w me.0 after.0) × (after.1 ≡ me.1))
   declines_at w has drew s r _ here _ =
@@ -250,9 +250,9 @@ module _ (setup : Setup) (shared : setup.is_shared ≡ true) (slots id : ℕ) (m
         (any_walk (λ k. DeclinesAt k v u) v.walk w has (n, refl), refl),
       )
 
-  -- ---- a value goes out
+  -- ---- a dequeue
 
-  -- the queue is empty, or the node holds a value
+  -- the queue is found empty, or the node holds a value
   pub peeks_at : (call room at : ℕ) → me.0.walk ≡ Some (walk_at call room at Find) → Contains me.0.drawn call
       → Allows (KeepsAccount setup) slots id me (at + 3) (λ n. n)
       (λ found after. ((w : Walk) → me.0.walk ≡ Some w → PeeksAt w me.0 found after.0) × (after.1 ≡ me.1))
@@ -309,7 +309,7 @@ module _ (setup : Setup) (shared : setup.is_shared ≡ true) (slots id : ℕ) (m
             (any_walk (λ k. PeeksAt k v found u) v.walk (walk_at call room at Find) has (inr (ne, refl)), refl),
           )
 
-  -- the value that was read is counted as taken, or was so before
+  -- the value that was read is counted as dequeued, or was so before
   pub claims_at : (call room at x : ℕ) → me.0.walk ≡ Some (walk_at call room at (Read x)) → Contains me.0.drawn call
       → Allows (KeepsAccount setup) slots id me 2 (λ n. either (eqb n at) (at + 1) n)
       (λ found after. ((w : Walk) → me.0.walk ≡ Some w → ClaimsAt w me.0 found after.0) × (after.1 ≡ me.1))
@@ -381,7 +381,7 @@ module _ (setup : Setup) (shared : setup.is_shared ≡ true) (slots id : ℕ) (m
 
 -- ---- the end, and the beginning
 
--- a pass that has the whole budget has noted the whole log, which is legal
+-- a pass with the whole budget has noted the whole log, which a queue accepts
 pub settles_shared : (setup : Setup) → setup.is_shared ≡ true → (id : ℕ) (v : Holding) (words : List ℕ) (slots : List (Unit {0})) (next : ℕ)
     → whole_of v ≡ setup.budget → Final (Seen (KeepsAccount setup) id v) words slots → get_elem? words 0 ≡ some next
     → (log : List Note) × IsPermutation v.noted log × LooksRise 0 log next × IsSome (queue_after (shared_initial setup) log)
@@ -404,7 +404,7 @@ shared_words_long initial room fits =
     let b = length-replicate (room + 1 - length initial) NO_VALUE in
     omega arith
 
--- the values that the first nodes hold
+-- the values that shared nodes hold at first
 pub shared_held : (initial : List ℕ) (room : ℕ) → take (length initial) (drop 3 (shared_words initial room)) ≡ initial
 shared_held initial room = take_at initial (replicate (room + 1 - length initial) NO_VALUE) (length initial) refl
 
@@ -431,7 +431,7 @@ filled_first initial room fits values = record {
     node : (j k : ℕ) → j ≡ k + 2 → get_or (length initial ∷ 0 ∷ (initial ++ rest)) j 0 ≡ get_or (initial ++ rest) k 0
     node j k e = (let is : j ≡ suc (suc k) = omega arith in ap (λ (i : ℕ). get_or (length initial ∷ 0 ∷ (initial ++ rest)) i 0) is)
 
--- a table whose nodes passes share
+-- a table whose nodes all passes share
 pub opens_shared : (setup : Setup) (words initial : List ℕ) (room : ℕ) → setup.has_nodes ≡ false → setup.is_shared ≡ true → setup.filled ≡ length initial
     → setup.words.value.items ≡ words → words ≡ shared_words initial room → length initial ≤ room → All (λ v. v ≢ NO_VALUE) initial
     → setup.budget ≤ TICKET_LIMIT → KeepsAccount setup (opening words [] (first_of setup))
@@ -468,7 +468,7 @@ opens_shared setup words initial room none shared filled are is fits values limi
     held = ap (λ (l : List ℕ). take setup.filled (drop 3 l)) (are ∙ is) ∙ ap (λ (k : ℕ). take k (drop 3 (shared_words initial room))) filled
         ∙ shared_held initial room
 
--- ---- which case a step was
+-- ---- the case that a step was
 
 pub linked_hit : (w : Walk) (x : ℕ) (before : Holding) (found : ℕ) (after : Holding) → LinksAt w x before found after → found ≡ NO_VALUE
     → (look : ℕ) × (after ≡ walking (record w { at = w.at + 1 }) (told w.call (effect.Enq x) look before))

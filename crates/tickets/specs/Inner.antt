@@ -1,4 +1,4 @@
--- Relations that serve the contracts of private functions: no public promise names one.
+-- Relations that only contracts of private functions name.
 pub mod Account
 pub mod Nodes
 pub mod Shared

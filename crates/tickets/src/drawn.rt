@@ -1,12 +1,12 @@
-// One ticket, to be used once.
+// A ticket, which is used at most once.
 use crate::source::Tickets;
 use std::marker::Model;
 use std::snapshot::Snapshot;
 
-/// A ticket that a pass drew, from 0.
+/// A ticket that a pass drew. The first one is 0.
 ///
-/// It is not `Clone`, so whoever takes it by value uses it up. It may be dropped unused; then no event has its
-/// number. Contracts also see which word it was drawn from, as the key of its `Tickets`.
+/// It is not `Clone`, so a function that takes it by value uses it up. It may be dropped unused; then no event has its
+/// number. Contracts also see the word that it was drawn from, by the key of that word's `Tickets`.
 #[derive(Drop)]
 pub struct Drawn {
     pub(crate) ticket: u64,
@@ -24,7 +24,7 @@ impl Model for Drawn {
 impl Drawn {
     ghost use Rattle.std.specs.Prelude.{◌≡◌};
 
-    /// Returns its number.
+    /// Returns the number of the ticket.
     pub fn ticket(&self) -> u64
         ensures { result ≡ self.now.ticket }
     {

@@ -1,14 +1,18 @@
-//! Numbers that threads draw from one word by single atomic steps, each number once.
+//! Tickets: numbers that threads draw from one word by single atomic steps, each number once.
 //!
-//! `Tickets` owns the word, which is the next number. A thread draws by a `Pass`, which has a share of the budget and
-//! keeps the list of what it drew. A pass can be split for another thread, and joined again. The pass with the whole
-//! budget holds each number below the word once.
+//! `Tickets` owns the word, which is the next number. A thread draws with a `Pass`, which has a share of the budget
+//! and lists the tickets that it drew. A pass can be split, so that another thread gets a part of its share, and
+//! passes can be joined again. A pass whose share is the whole budget holds each number below the word once.
 //!
-//! Nothing here takes a lock or waits. Only what makes `Tickets` takes memory and can fail. Without nodes there are
-//! seven kinds of step. Making sets the word to 0, and gives the first pass the whole budget. Splitting, drawing and
-//! joining change the view of the pass that steps; a pass that was joined to another keeps the empty view. A look at
-//! the word, which changes no view, follows each join. Noting reads the word, and adds to the log, which exists in
-//! proofs alone. Closing reads the word.
+//! No function here takes a lock or waits. Only those that make `Tickets` take memory, and only they can fail. Without
+//! nodes there are seven kinds of step:
+//!
+//! - Making sets the word to 0, and gives the first pass the whole budget.
+//! - Splitting, drawing and joining change the view of the pass that steps. A pass that was joined to another keeps
+//!   the empty view.
+//! - A look at the word follows each join. It changes no view.
+//! - Noting reads the word, and adds a note to the log, which exists only in proofs.
+//! - Closing reads the word.
 #![tactic(auto)]
 
 mod account;
@@ -29,8 +33,8 @@ pub use note::{Effect, Note};
 pub use pass::Pass;
 pub use source::Tickets;
 
-/// Every ticket is below this number, and no budget is above it.
+/// The largest budget. Every ticket is below it.
 pub const TICKET_LIMIT: u64 = 1_000_000_000_000;
 
-/// The number that marks an empty node among those that all passes share, so no value: 2^38 - 1.
+/// The mark of an empty node among those that all passes share: 2^38 - 1. It is not a value.
 pub const NO_VALUE: u64 = (1 << 38) - 1;

@@ -1,4 +1,4 @@
-// The log of what all passes noted.
+// The log of all passes' notes.
 ghost use Rattle.std.specs.Prelude.{◌≡◌, [], ◌<◌, Contains, ℕ};
 ghost use Rattle.atomic_table.specs.Table.{Step};
 ghost use Rattle.tickets.specs.declared.account.Holding.{Holding};
@@ -11,9 +11,9 @@ use crate::source::Tickets;
 use atomic_table::{Play, Seat};
 use std::marker::{Brand, Model};
 
-/// The right to note operations in the log, one after another. It takes no bytes.
+/// The right to add notes to the log, one after another. It takes no bytes.
 ///
-/// Contracts see the log: all notes in their order.
+/// Contracts see all notes of the log, in their order.
 #[derive(Drop)]
 pub struct Log {
     seat: Seat<(), Holding>,
@@ -31,7 +31,7 @@ impl Model for Log {
     ghost invariant = { λ l. l.seat.me ≡ (logging (known_log l.seat.me.0.log), []) };
 }
 
-// Looks at the word, and notes an operation with what it finds. The caller picks `M` for its note.
+// Loads the word, and notes an operation with the number that it finds. The caller chooses `M` for its note.
 fn note_by<M: Play<(), Holding>>(
     tickets: &Tickets,
     seat: &mut Seat<(), Holding>,
@@ -53,7 +53,7 @@ impl Log {
     ghost use Rattle.std.specs.Prelude.{◌≡◌, []};
     ghost use Rattle.tickets.specs.Inner.Account.{logging};
 
-    // The log of a seat that holds nothing but the log.
+    // Makes the log from a seat that holds nothing else.
     pub(crate) fn of_seat(seat: Seat<(), Holding>) -> Log
         requires { seat.me ≡ (logging (known_log seat.me.0.log), []) }
         ensures { result ≡ record { key = seat.table_id; notes = known_log seat.me.0.log } }
@@ -61,7 +61,7 @@ impl Log {
         Log { seat }
     }
 
-    // The seat that holds the log.
+    // Returns the seat that holds the log.
     pub(crate) fn into_seat(self) -> Seat<(), Holding>
         ensures key { result.table_id ≡ self.key }
         ensures seat { result.me ≡ (logging self.notes, []) }
@@ -75,10 +75,11 @@ impl Pass {
     ghost use Rattle.std.specs.Prelude.{◌≡◌, ◌<◌, ◌≤◌, [], ◌∷◌, ◌++◌, All, Contains};
     ghost use Rattle.tickets.specs.Log.{note_at};
 
-    /// Notes an operation in the log, whose call ticket this pass drew, and returns the next ticket at that moment.
+    /// Adds a note of an operation to the log, and returns the next ticket at that moment. This pass drew the
+    /// operation's call ticket.
     ///
-    /// That number is above the call ticket, not below that of an earlier note, and not above a later ticket of this
-    /// pass. It makes four loads of the word, and takes no memory.
+    /// The returned number is above the call ticket. It is not below that of an earlier note, and not above a later
+    /// ticket of this pass. The call makes four loads of the word, and takes no memory.
     pub fn note(&mut self, tickets: &Tickets, log: &mut Log, call: u64, effect: Effect) -> u64
         requires key { (self.old.key ≡ tickets.now.key) × (log.old.key ≡ tickets.now.key) }
         requires drew { Contains self.old.drawn call }

@@ -1,4 +1,5 @@
-// A row of nodes beside the ticket word: a queue whose values go in at the tail and out at the head.
+// A queue with two ends: a row of nodes beside the ticket word. Values are enqueued at the tail and dequeued at the
+// head.
 ghost use Rattle.std.specs.Prelude.{◌≡◌, ◌≢◌, ◌+◌, ◌<◌, ◌≤◌, [], ◌∷◌, ◌++◌, Contains, ℕ, List, Bool, Option, Some, None, true, false, IfSome};
 ghost use Rattle.atomic_table.specs.Table.{Step};
 ghost use Rattle.tickets.specs.declared.TheConstants.{TICKET_LIMIT};
@@ -12,12 +13,13 @@ use crate::source::Tickets;
 use atomic_table::{Play, Seat};
 use std::marker::{Brand, Model};
 
-// Beside the ticket word stands the count of the values that went in, and then the nodes.
+// The word that counts the enqueued values. It follows the ticket word, and the nodes follow it.
 const COUNT: usize = 1;
 
-/// The right to put values into the nodes that stand beside a ticket word, at the tail.
+/// The right to enqueue values at the tail of the nodes that stand beside a ticket word.
 ///
-/// One thread at a time puts: who shares the end puts it under a lock. Contracts see which ticket word it is of.
+/// One thread at a time uses it: threads that share the end keep it under a lock. Contracts see the key of its ticket
+/// word.
 #[derive(Drop)]
 pub struct TailEnd {
     seat: Seat<(), Holding>,
@@ -39,9 +41,10 @@ impl Model for TailEnd {
         × (t.room ≤ TICKET_LIMIT) × (t.at ≤ t.room) };
 }
 
-/// The right to take values out of the nodes that stand beside a ticket word, at the head.
+/// The right to dequeue values at the head of the nodes that stand beside a ticket word.
 ///
-/// One thread at a time takes. Contracts see which ticket word it is of, and the values that the nodes held first.
+/// One thread at a time uses it. Contracts see the key of its ticket word, and the values that the nodes held at
+/// first.
 #[derive(Drop)]
 pub struct HeadEnd {
     seat: Seat<(), Holding>,
@@ -68,7 +71,7 @@ impl TailEnd {
     ghost use Rattle.tickets.specs.declared.TheConstants.{TICKET_LIMIT};
     ghost use Rattle.tickets.specs.Inner.Nodes.{tail_at, ends};
 
-    // The tail end of a seat that holds nothing else.
+    // Makes the tail end from a seat that holds nothing else.
     pub(crate) fn of_seat(seat: Seat<(), Holding>, at: usize, room: usize) -> TailEnd
         requires seat { seat.me ≡ (ends (Some (tail_at at room None)) None, []) }
         requires words { seat.table_id.words ≡ room + 2 }
@@ -84,7 +87,7 @@ impl HeadEnd {
     ghost use Rattle.tickets.specs.declared.TheConstants.{TICKET_LIMIT};
     ghost use Rattle.tickets.specs.Inner.Nodes.{head_at, ends, first_held};
 
-    // The head end of a seat that holds nothing else.
+    // Makes the head end from a seat that holds nothing else.
     pub(crate) fn of_seat(seat: Seat<(), Holding>, room: usize) -> HeadEnd
         requires seat { seat.me ≡ (ends None (Some (head_at 0 room (first_held seat.me.0.head) false)), []) }
         requires words { seat.table_id.words ≡ room + 2 }
@@ -94,7 +97,7 @@ impl HeadEnd {
         HeadEnd { seat, at: 0, room }
     }
 
-    // The seat that holds the head end.
+    // Returns the seat that holds the head end.
     pub(crate) fn into_seat(self) -> Seat<(), Holding>
         ensures key { result.table_id ≡ self.key }
         ensures seat { (at : ℕ) × (room : ℕ) × (result.me ≡ (ends None (Some (head_at at room self.initial false)), [])) }
@@ -108,7 +111,7 @@ impl HeadEnd {
     }
 }
 
-// Counts the staged value, and notes that it went in. The caller picks `M` for its note.
+// Counts the staged value, and notes that it was enqueued. The caller chooses `M` for its note.
 fn publish_by<M: Play<(), Holding>>(
     tickets: &Tickets,
     seat: &mut Seat<(), Holding>,
@@ -132,7 +135,7 @@ fn publish_by<M: Play<(), Holding>>(
         .store::<M>(seat, COUNT, tail.0 as u64 + 1);
 }
 
-// Looks at the ticket word, and notes that the value did not go in. The caller picks `M` for its note.
+// Loads the ticket word, and notes that the enqueue failed. The caller chooses `M` for its note.
 fn refuse_by<M: Play<(), Holding>>(
     tickets: &Tickets,
     seat: &mut Seat<(), Holding>,
@@ -151,7 +154,8 @@ fn refuse_by<M: Play<(), Holding>>(
     tickets.table.shared.load::<M>(seat, 0);
 }
 
-// Looks at the count, and notes that the queue is empty if all that went in had gone out. The caller picks `M`.
+// Returns the count of enqueued values, and notes that the queue was found empty if as many were dequeued. The caller
+// chooses `M` for its call.
 fn find_by<M: Play<(), Holding>>(
     tickets: &Tickets,
     seat: &mut Seat<(), Holding>,
@@ -170,7 +174,7 @@ fn find_by<M: Play<(), Holding>>(
     tickets.table.shared.load::<M>(seat, COUNT)
 }
 
-// Reads the next node, and notes that its value went out. The caller picks `M` for its note.
+// Reads the next node, and notes that its value was dequeued. The caller chooses `M` for its note.
 fn read_by<M: Play<(), Holding>>(
     tickets: &Tickets,
     seat: &mut Seat<(), Holding>,
@@ -190,7 +194,7 @@ fn read_by<M: Play<(), Holding>>(
     tickets.table.shared.load::<M>(seat, head.0 + 2)
 }
 
-// Writes the value into the next node, counts it and notes it, if there is a node left.
+// Enqueues a value in the next node and notes it, or notes that the enqueue failed, since no node is left.
 fn put_on(
     tickets: &Tickets,
     seat: &mut Seat<(), Holding>,
@@ -218,7 +222,7 @@ fn put_on(
     }
 }
 
-// Takes the value out of the next node and notes it, or notes that the queue is empty.
+// Dequeues the value of the next node and notes it, or notes that the queue was found empty.
 fn take_on(
     tickets: &Tickets,
     seat: &mut Seat<(), Holding>,
@@ -245,10 +249,10 @@ impl Pass {
     ghost use Rattle.tickets.specs.Log.{note_at};
     ghost use Rattle.tickets.specs.Nodes.{effect_of_put, effect_of_take};
 
-    /// Puts a value into the next node, and returns whether it did: false if no node is left. The operation is noted,
-    /// whose call ticket this pass drew.
+    /// Enqueues a value in the next node, and notes the operation, whose call ticket this pass drew. Returns false if
+    /// the enqueue failed, since no node is left.
     ///
-    /// It makes two stores, six loads and no other shared step, waits for nobody, and takes no memory.
+    /// It makes two stores, six loads and no other shared step. It waits for nobody, and takes no memory.
     pub fn put(&mut self, tickets: &Tickets, end: &mut TailEnd, call: u64, value: u64) -> bool
         requires key { (self.old.key ≡ tickets.now.key) × (end.old ≡ tickets.now.key) }
         requires drew { Contains self.old.drawn call }
@@ -266,10 +270,10 @@ impl Pass {
         put
     }
 
-    /// Takes the value of the next node, or returns none if all that went in has gone out. The operation is noted,
-    /// whose call ticket this pass drew.
+    /// Dequeues the value of the next node, and notes the operation, whose call ticket this pass drew. Returns none if
+    /// all enqueued values were dequeued.
     ///
-    /// It makes eight loads and no other shared step, waits for nobody, and takes no memory.
+    /// It makes eight loads and no other shared step. It waits for nobody, and takes no memory.
     pub fn take(&mut self, tickets: &Tickets, end: &mut HeadEnd, call: u64) -> Option<u64>
         requires key { (self.old.key ≡ tickets.now.key) × (end.old.key ≡ tickets.now.key) }
         requires drew { Contains self.old.drawn call }

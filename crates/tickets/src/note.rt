@@ -1,21 +1,21 @@
-// What a queue did, as the log has it.
+// The notes of a log: what each operation did to a queue.
 
-/// What an operation did to a queue.
+/// The effect of an operation on a queue.
 #[derive(Clone, Copy, Debug, PartialEq, Eq)]
 pub enum Effect {
-    /// It put this value last.
+    /// It enqueued this value.
     Enq(u64),
-    /// It took this value, the first one, out.
+    /// It dequeued this value, which was the first one.
     Deq(u64),
-    /// It found no value, and changed nothing.
+    /// It found the queue empty, and changed nothing.
     Empty,
-    /// It changed nothing, and this value was not taken.
+    /// It failed to enqueue this value, and changed nothing.
     Not(u64),
 }
 
-/// An operation in the log: its call ticket, its effect, and the next ticket at that moment.
+/// A note of an operation: its call ticket, its effect, and the next ticket at the moment of the note.
 ///
-/// It stands in contracts alone. No value of it is made.
+/// It exists only in contracts: no code makes one.
 pub struct Note {
     pub call: u64,
     pub effect: Effect,

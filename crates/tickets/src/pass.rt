@@ -9,10 +9,10 @@ use atomic_table::{Seat, Split};
 use std::marker::{Brand, Model};
 use std::snapshot::Snapshot;
 
-/// A share of the budget, and the tickets that were drawn on it.
+/// A share of the budget, and the tickets that were drawn from it.
 ///
-/// A thread draws by a pass of its own. Contracts see the list of the tickets that it drew, which takes no memory. A
-/// dropped pass takes its share with it: no other pass can have the whole budget afterwards.
+/// Each thread draws with a pass of its own. Contracts see the list of its tickets, which takes no memory. A dropped
+/// pass takes its share with it: no other pass can have the whole budget afterwards.
 #[derive(Drop)]
 pub struct Pass {
     pub(crate) seat: Seat<(), Holding>,
@@ -34,7 +34,7 @@ impl Model for Pass {
         × (p.seat.me.0.walk ≡ None) };
 }
 
-// Cuts n tickets off the seat's share, for a new seat. The caller picks `M` for its n.
+// Moves `n` tickets from the seat's share to a new seat. The caller chooses `M` for its `n`.
 fn cut_off<M: Split<Holding>>(
     tickets: &Tickets,
     seat: &mut Seat<(), Holding>,
@@ -58,7 +58,7 @@ impl Pass {
     ghost use Rattle.tickets.specs.Views.{share_of, fresh_pass, DrawsOne};
     ghost use Rattle.tickets.specs.Inner.Account.{holding};
 
-    // The seat that the pass steps with, its share, and what is left of the share.
+    // Returns the pass's seat, its share, and the number of tickets that it may still draw.
     pub(crate) fn into_parts(self) -> (Seat<(), Holding>, u64, u64)
         ensures key { result.0.table_id ≡ self.key }
         ensures seat { result.0.me ≡ (holding self.left self.drawn self.noted, []) }
@@ -69,21 +69,21 @@ impl Pass {
         (seat, share, left)
     }
 
-    /// Returns how many tickets the pass may draw in all, including those that it has drawn.
+    /// Returns the number of tickets that the pass may draw in all, including those that it has drawn.
     pub fn share(&self) -> u64
         ensures { result ≡ share_of self.now }
     {
         self.share
     }
 
-    /// Returns how many tickets the pass may still draw.
+    /// Returns the number of tickets that the pass may still draw.
     pub fn left(&self) -> u64
         ensures { result ≡ self.now.left }
     {
         self.left
     }
 
-    /// Takes the next ticket, by one `fetch_add` on the word that all passes share.
+    /// Draws the next ticket, by one `fetch_add` on the word that all passes share.
     pub fn draw(&mut self, tickets: &Tickets) -> Drawn
         requires pass_key { self.old.key ≡ tickets.now.key }
         requires some_left { 0 < self.old.left }
@@ -99,7 +99,7 @@ impl Pass {
         }
     }
 
-    /// Cuts n tickets off the share, for a second pass, usually that of another thread. It takes no memory.
+    /// Moves `n` tickets of the share to a second pass, usually for another thread. It takes no memory.
     pub fn split(self, tickets: &Tickets, n: u64) -> (Pass, Pass)
         requires key { self.key ≡ tickets.now.key }
         requires room { n ≤ self.left }
@@ -121,7 +121,7 @@ impl Pass {
         (first, second)
     }
 
-    /// Joins two passes: their shares, and the tickets that they drew. It takes no memory.
+    /// Joins two passes: adds their shares, and puts their tickets and notes together. It takes no memory.
     pub fn join(self, tickets: &Tickets, other: Pass) -> Pass
         requires key { self.key ≡ tickets.now.key }
         requires other_key { other.key ≡ tickets.now.key }

@@ -1,4 +1,4 @@
-// A row of nodes beside the ticket word that all passes share: a queue without a lock, for any number of threads.
+// A lock-free queue for any number of threads: a row of nodes beside the ticket word, which all passes share.
 ghost use Rattle.std.specs.Prelude.{◌≡◌, ◌+◌, ◌≤◌, ◌<◌, [], ◌∷◌, ◌++◌, Contains, ℕ, true};
 ghost use Rattle.atomic_table.specs.Table.{Step};
 ghost use Rattle.tickets.specs.declared.account.Holding.{Holding};
@@ -11,16 +11,18 @@ use crate::source::Tickets;
 use atomic_table::{Play, Seat};
 use std::marker::Brand;
 
-// A count of values that went in, at which calls begin to look for the empty node. It may lag behind.
+// The word that says at which node an enqueue begins to look for an empty one. It counts enqueued values, and may lag
+// behind their number.
 const HINT: usize = 1;
 
-// The count of values that were taken.
+// The word that counts the dequeued values.
 const TAKEN: usize = 2;
 
-// The first node.
+// The word that is the first node.
 const NODES: usize = 3;
 
-// Looks where the nodes that hold values end, or before that. The caller picks `M` for its call and value.
+// Returns the node at which an enqueue begins to look for an empty one. All nodes before it hold values. The caller
+// chooses `M` for its call and value.
 fn begin_put_by<M: Play<(), Holding>>(
     tickets: &Tickets,
     seat: &mut Seat<(), Holding>,
@@ -37,7 +39,8 @@ fn begin_put_by<M: Play<(), Holding>>(
     tickets.table.shared.load::<M>(seat, HINT)
 }
 
-// Looks how many values were taken. The caller picks `M` for its call.
+// Returns the number of dequeued values, and so the node at which a dequeue begins. The caller chooses `M` for its
+// call.
 fn begin_take_by<M: Play<(), Holding>>(
     tickets: &Tickets,
     seat: &mut Seat<(), Holding>,
@@ -53,7 +56,8 @@ fn begin_take_by<M: Play<(), Holding>>(
     tickets.table.shared.load::<M>(seat, TAKEN)
 }
 
-// Puts the value into the first empty node and notes it, if a node is left.
+// Enqueues a value in the first empty node and notes it, or notes that the enqueue failed, since no node is left or
+// the value is the mark of an empty one.
 fn push_on(tickets: &Tickets, seat: &mut Seat<(), Holding>, call: u64, value: u64) -> bool
     requires key { (seat.old.table_id ≡ tickets.now.key) × (tickets.now.shared ≡ true) }
     requires drew { Contains seat.old.me.0.drawn call }
@@ -76,7 +80,8 @@ fn push_on(tickets: &Tickets, seat: &mut Seat<(), Holding>, call: u64, value: u6
     false
 }
 
-// Takes the value out of the first node that was not taken and notes it, or notes that the queue is empty.
+// Dequeues the value of the first node that was not yet dequeued and notes it, or notes that the queue was found
+// empty.
 fn pop_on(tickets: &Tickets, seat: &mut Seat<(), Holding>, call: u64) -> Option<u64>
     requires key { (seat.old.table_id ≡ tickets.now.key) × (tickets.now.shared ≡ true) }
     requires drew { Contains seat.old.me.0.drawn call }
@@ -103,11 +108,12 @@ impl Pass {
     ghost use Rattle.tickets.specs.Log.{note_at};
     ghost use Rattle.tickets.specs.Nodes.{effect_of_put, effect_of_take};
 
-    /// Puts a value into the first empty node of those that all passes share, and returns whether it did: false if no
-    /// node is left, or for [`NO_VALUE`](crate::NO_VALUE). The operation is noted, whose call ticket this pass drew.
+    /// Enqueues a value in the first empty node of those that all passes share, and notes the operation, whose call
+    /// ticket this pass drew. Returns false if the enqueue failed: no node is left, or the value is
+    /// [`NO_VALUE`](crate::NO_VALUE).
     ///
-    /// It exchanges the mark of the empty node for the value. If another pass did so first, it goes on to the next node,
-    /// so in each round some pass gets on. It waits for nobody, and takes no memory.
+    /// It exchanges the mark of the empty node for the value. If another pass did so first, it goes on to the next
+    /// node, so some pass makes progress in each round. It waits for nobody, and takes no memory.
     pub fn push(&mut self, tickets: &Tickets, call: u64, value: u64) -> bool
         requires key { (self.old.key ≡ tickets.now.key) × (tickets.now.shared ≡ true) }
         requires drew { Contains self.old.drawn call }
@@ -116,11 +122,11 @@ impl Pass {
         push_on(tickets, &mut self.seat, call, value)
     }
 
-    /// Takes the value of the first node that was not taken, or returns none if that node is empty. The operation is
-    /// noted, whose call ticket this pass drew.
+    /// Dequeues the value of the first shared node that was not yet dequeued, and notes the operation, whose call
+    /// ticket this pass drew. Returns none if that node is empty.
     ///
-    /// It reads the node, and then exchanges the count of taken values for the next one. If another pass did so first, it
-    /// goes on to the node that is first then. It waits for nobody, and takes no memory.
+    /// It reads the node, and then exchanges the count of dequeued values for the next number. If another pass did so
+    /// first, it goes on to the node that is first then. It waits for nobody, and takes no memory.
     pub fn pop(&mut self, tickets: &Tickets, call: u64) -> Option<u64>
         requires key { (self.old.key ≡ tickets.now.key) × (tickets.now.shared ≡ true) }
         requires drew { Contains self.old.drawn call }

@@ -15,14 +15,15 @@ use std::alloc::{AllocError, Global};
 use std::marker::Model;
 use std::snapshot::Snapshot;
 
-/// The word that tickets are drawn from: the next number, from 0.
+/// The word that tickets are drawn from. It holds the next ticket; the first one is 0.
 ///
-/// Threads share it by reference. Contracts see which word it is, as its key, its budget: how many tickets may be
-/// drawn in all, and whether nodes that all passes share stand beside it, with what these held first.
+/// Threads share it by reference. Contracts see its key, which says which word it is, and its budget: the number of
+/// tickets that may be drawn in all. They also see whether nodes that all passes share stand beside it, the number of
+/// values that these have room for, and the values that they held at first.
 #[derive(Drop)]
 pub struct Tickets {
     pub(crate) table: Table<(), Holding, Setup, Account, Global>,
-    // For how many values there are nodes that all passes share.
+    // Number of values that the shared nodes have room for; 0 if there are no such nodes.
     pub(crate) room: usize,
 }
 
@@ -56,9 +57,9 @@ impl Tickets {
     ghost use Rattle.tickets.specs.Log.{LooksRise};
     ghost use Rattle.tickets.specs.Views.{fresh_pass, share_of, numbers_below};
 
-    /// Makes a new word, and a pass that has the whole budget as its share.
+    /// Makes a new word, and a pass whose share is the whole budget.
     ///
-    /// It takes one block of memory, of the same size for every budget, and fails only if that is refused.
+    /// It takes one block of memory, of the same size for every budget, and fails only if it is out of memory.
     pub fn new(alloc: Global, budget: u64) -> Result<(Tickets, Pass), AllocError>
         requires { budget ≤ TICKET_LIMIT }
         ensures budget { IfOk result (λ t. t.0.budget ≡ budget) }
@@ -71,8 +72,8 @@ impl Tickets {
         Ok((tickets, pass))
     }
 
-    /// Makes a new word, a pass that has the whole budget as its share, and the empty log. It takes memory and fails
-    /// as `new` does.
+    /// Makes a new word, a pass whose share is the whole budget, and the empty log. It takes memory and fails as `new`
+    /// does.
     pub fn with_log(alloc: Global, budget: u64) -> Result<(Tickets, Pass, Log), AllocError>
         requires { budget ≤ TICKET_LIMIT }
         ensures budget { IfOk result (λ t. t.0.budget ≡ budget) }
@@ -99,10 +100,10 @@ impl Tickets {
         ))
     }
 
-    /// Makes a new word with a row of nodes beside it, which hold these values first and have room for `room` in all.
-    /// Returns a pass that has the whole budget as its share, and the two ends of the row.
+    /// Makes a new word with a row of nodes beside it, a pass whose share is the whole budget, and the two ends of the
+    /// row. The nodes hold the values of `initial` at first, and have room for `room` values in all.
     ///
-    /// It takes memory for each node, and fails only if that is refused.
+    /// It takes memory for each node, and fails only if it is out of memory.
     pub fn with_nodes(
         alloc: Global,
         budget: u64,
@@ -140,10 +141,10 @@ impl Tickets {
         ))
     }
 
-    /// Makes a new word with a row of nodes beside it that all passes share, which hold these values first and have room
-    /// for `room` in all. Returns a pass that has the whole budget as its share.
+    /// Makes a new word with a row of nodes beside it that all passes share, and a pass whose share is the whole
+    /// budget. The nodes hold the values of `initial` at first, and have room for `room` values in all.
     ///
-    /// It takes memory for each node, and fails only if that is refused.
+    /// It takes memory for each node, and fails only if it is out of memory.
     pub fn with_shared_nodes(
         alloc: Global,
         budget: u64,
@@ -178,9 +179,9 @@ impl Tickets {
         ))
     }
 
-    /// Returns how many tickets were drawn.
+    /// Closes the word, and returns the number of tickets that were drawn.
     ///
-    /// The pass has the whole budget as its share, so no other pass can draw afterwards. It takes no memory.
+    /// The share of `pass` is the whole budget, so no other pass can draw afterwards. It takes no memory.
     pub fn close(self, pass: Pass) -> u64
         requires key { pass.key ≡ self.key }
         requires whole { share_of pass ≡ self.budget }
@@ -194,8 +195,8 @@ impl Tickets {
         next
     }
 
-    /// Returns how many tickets were drawn, as `close` does. The pass has the whole budget as its share, so it noted all
-    /// that is in the log, in which the looks rise. It takes no memory.
+    /// Closes the word, and returns the number of tickets that were drawn, as `close` does. The share of `pass` is the
+    /// whole budget, so it noted all that is in the log, whose looks rise. It takes no memory.
     pub fn close_with_log(self, pass: Pass, log: Log) -> u64
         requires key { pass.key ≡ self.key }
         requires log_key { log.key ≡ self.key }
@@ -215,9 +216,9 @@ impl Tickets {
         total
     }
 
-    /// Returns how many tickets were drawn, as `close` does. The pass has the whole budget as its share, so it noted all
-    /// that was done at both ends of the nodes: there is a log of these notes, in which the looks rise, and a queue that
-    /// held the values of the nodes first accepts it. It takes no memory.
+    /// Closes the word, and returns the number of tickets that were drawn, as `close` does. The share of `pass` is the
+    /// whole budget, so it noted each operation at both ends of the nodes: its notes are those of a log whose looks
+    /// rise, and a queue that held the nodes' first values accepts that log. It takes no memory.
     pub fn close_with_nodes(self, pass: Pass, head: HeadEnd) -> u64
         requires key { pass.key ≡ self.key }
         requires head_key { head.key ≡ self.key }
@@ -236,9 +237,9 @@ impl Tickets {
         total
     }
 
-    /// Returns how many tickets were drawn, as `close` does. The pass has the whole budget as its share, so it noted all
-    /// that was done on the nodes that passes share: there is a log of these notes, in which the looks rise, and a queue
-    /// that held the values of the nodes first accepts it. It takes no memory.
+    /// Closes the word, and returns the number of tickets that were drawn, as `close` does. The share of `pass` is the
+    /// whole budget, so it noted each operation on the shared nodes: its notes are those of a log whose looks rise,
+    /// and a queue that held the nodes' first values accepts that log. It takes no memory.
     pub fn close_with_shared_nodes(self, pass: Pass) -> u64
         requires key { (pass.key ≡ self.key) × (self.shared ≡ true) }
         requires whole { share_of pass ≡ self.budget }
@@ -254,7 +255,8 @@ impl Tickets {
     }
 }
 
-// Returns the words of a table with nodes: the next ticket, the count of the values that went in, and the nodes.
+// Returns the words of a table with nodes that have two ends: the next ticket, the count of enqueued values, and the
+// nodes.
 fn words_of(alloc: Global, initial: &[u64], room: usize) -> Result<Vec<u64>, AllocError>
     requires fits { length initial.now ≤ room }
     requires room { room ≤ TICKET_LIMIT }
@@ -269,8 +271,8 @@ fn words_of(alloc: Global, initial: &[u64], room: usize) -> Result<Vec<u64>, All
     Ok(words)
 }
 
-// Returns the words of a table whose nodes all passes share: the next ticket, two counts and the nodes. One node more than
-// there is room for stays empty, so that a call finds an empty node after all others were taken.
+// Returns the words of a table whose nodes all passes share: the next ticket, two counts, and the nodes. One node more
+// than there is room for stays empty, so that a dequeue finds an empty node after all values were dequeued.
 fn shared_words_of(alloc: Global, initial: &[u64], room: usize) -> Result<Vec<u64>, AllocError>
     requires fits { length initial.now ≤ room }
     requires room { room ≤ TICKET_LIMIT }

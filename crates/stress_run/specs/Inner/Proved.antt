@@ -1,4 +1,4 @@
--- What a run of a proved queue gives.
+-- The result of a run of a proved queue.
 use Rattle.std.specs.Prelude.{◌≡◌, ℕ, List}
 use Rattle.event_records.specs.declared.event.Event.{Event}
 use Rattle.event_records.specs.declared.kind.Kind.{Kind}
@@ -11,7 +11,8 @@ use Rattle.recorder_core.specs.Replay.{AreRecorded, Replays}
 use Rattle.stress_run.specs.Operations.{IsRun}
 use Rattle.stress_run.specs.Recorded.{RecordedView}
 
--- a run of the plan from these values: recorded lists, which replay with rings of this size, and merge to a complete and linearizable history
+-- a run of the plan from these initial values: its lists are recorded ones, replay with rings of this size, and merge
+-- to a complete and linearizable history
 pub record IsProvedRun (plan : List (List Kind)) (ring : ℕ) (initial : List ℕ) (r : RecordedView) : Type 0 where
   pub recorded : IsRun AnswersInKind plan r.lists r.total
   pub from_initial : r.initial ≡ initial

@@ -1,4 +1,4 @@
--- A worker that is about to begin, and one operation of it.
+-- A worker before its operations, and one operation of it.
 use Rattle.std.specs.Prelude.{◌≡◌, ◌+◌, ◌*◌, ◌≤◌, ◌<◌, Bool, true, IsTrue, List, length}
 use Rattle.atomic_table.specs.Seated.{TableId}
 use Rattle.event_records.specs.Question.{Answered, Question, call_event, return_event}
@@ -14,23 +14,23 @@ use Rattle.stress_run.specs.declared.worker.AnyAsk.TheVariants as any
 use Rattle.tickets.specs.Views.{DrawsOne, PassView}
 use Rattle.tickets.specs.declared.note.Note.{Note}
 
--- the worker draws from this word, and may make operations of these kinds
+-- the worker draws from this word, and has tickets and names for operations of these kinds
 pub record IsReady (key : TableId) (kinds : List Kind) (w : WorkerView) : Type 0 where
   pub of_key : w.pass.key ≡ key
   pub enough : 2 * length kinds ≤ w.pass.left
   pub room : w.asked + length kinds ≤ NAMES_OF_A_THREAD
 
--- the worker is ready for the kinds of its row
+-- the worker has a row, and is ready for its kinds
 pub record IsReadyIn (key : TableId) (rows : List (List Kind)) (w : WorkerView) : Type 0 where
   pub has_row : w.thread < length rows
   pub ready : IsReady key (row_of rows w) w
 
--- the question
+-- the question itself, whether to enqueue or to dequeue
 abbrev pub question_in : AnyAsk → Question
 question_in (any.Enq ask) = ask
 question_in (any.Deq ask) = ask
 
--- the queue answered the question, noted the answer if it notes them, and this is the event of the return
+-- the queue answered the question and noted the answer, if it notes answers, and this is the return event
 pub record IsStamped (may : Question → Answer → Type 0) (notes : Bool) (q : Question) (old new : PassView) (returned : Event) : Type 0 where
   pub answered : Answered
   pub noted : List Note

@@ -1,4 +1,4 @@
--- What the steps of the account keep.
+-- The account that every step keeps, and what each step does to a view.
 use Rattle.std.specs.Prelude.{◌≡◌, ℕ, ◌+◌, ◌<◌, ◌≤◌, List, [], ◌∷◌, ◌++◌, length, All, slice_index}
 use Rattle.std.specs.Prelude.{cond, nat_lt, ◌-◌, take, drop, if◌then◌else◌, false, true, ◌⊎◌, Option, Some, None}
 use Rattle.std.specs.List.Sorted.{IsStrictlyIncreasing}
@@ -13,23 +13,23 @@ use Rattle.tickets.specs.Log.{IsLogged, note_at}
 use Rattle.tickets.specs.Inner.Nodes.{AreNodes, head_at, tail_at}
 use Rattle.tickets.specs.Inner.Shared.{AreShared}
 
--- a pass that may still draw this many tickets, has drawn these, and has noted these operations
+-- a pass that may still draw this many tickets, with these tickets and notes
 abbrev pub holding : ℕ → List ℕ → List Note → Holding
 holding left drawn noted = record { left = left; drawn = drawn; noted = noted; log = None; tail = None; head = None; walk = None }
 
--- the log, by which nothing is drawn
+-- the view of the log, which has no share
 abbrev pub logging : List Note → Holding
 logging log = record { left = 0; drawn = []; noted = []; log = Some log; tail = None; head = None; walk = None }
 
--- the values that the nodes hold first
+-- the values that nodes with two ends hold at first
 abbrev pub initial_of : Setup → List ℕ
 initial_of setup = take setup.filled (drop 2 setup.words.value.items)
 
--- for how many values there are nodes
+-- the number of values that nodes with two ends have room for
 abbrev pub room_of : Setup → ℕ
 room_of setup = length setup.words.value.items - 2
 
--- the first pass, which has the whole budget and both ends of the nodes
+-- the first pass, with the whole budget and both ends of the nodes
 abbrev pub with_both : Setup → Holding
 with_both setup = record {
   left = setup.budget;
@@ -41,40 +41,41 @@ with_both setup = record {
   walk = None;
 }
 
--- the first pass, which has the whole budget and knows the log
+-- the first pass, with the whole budget and the log
 abbrev pub with_known : Setup → Holding
 with_known setup = record { left = setup.budget; drawn = []; noted = []; log = Some []; tail = None; head = None; walk = None }
 
--- the first pass; if passes share nodes, it knows neither an end nor the log
+-- the first pass; if passes share nodes, it has neither an end nor the log
 abbrev pub first_of : Setup → Holding
 first_of setup = if setup.has_nodes then with_both setup else (if setup.is_shared then holding setup.budget [] [] else with_known setup)
 
--- the values that shared nodes hold first
+-- the values that shared nodes hold at first
 abbrev pub shared_initial : Setup → List ℕ
 shared_initial setup = take setup.filled (drop 3 setup.words.value.items)
 
--- for how many values there are shared nodes
+-- the number of values that shared nodes have room for
 abbrev pub shared_room : Setup → ℕ
 shared_room setup = length setup.words.value.items - 4
 
--- the words after the ticket word: nodes with two ends, or nodes that all passes share
+-- the words after the ticket word are nodes with two ends, or nodes that all passes share
 abbrev pub AreBeside : Setup → List ℕ → List Note → List Holding → Type 0
 AreBeside setup row log views = ((setup.is_shared ≡ false) × AreNodes (initial_of setup) row log views)
     ⊎ ((setup.is_shared ≡ true) × AreShared (shared_initial setup) (shared_room setup) row log views)
 
--- all notes are logged, and the nodes hold what the log says
+-- there is a log of all notes, and the words after the ticket word fit it
 pub record AreBooked (setup : Setup) (next : ℕ) (words : List ℕ) (views : List Holding) : Type 0 where
   pub log : List Note
   pub logged : IsLogged next log views
   pub nodes : AreBeside setup (drop 1 words) log views
 
--- the first word is the next ticket
+-- the first word is the next ticket, and the account and the log fit it
 abbrev pub KeepsAccount : Setup → State (Unit {0}) Holding → Type 0
 KeepsAccount setup s =
     ((0 < length s.words) × IsAccount setup.budget (slice_index s.words 0) s.views)
     × AreBooked setup (slice_index s.words 0) s.words s.views
 
--- the ticket is above all that the pass had drawn, and not below its looks; it goes last into what the pass has drawn
+-- the ticket is above all that the pass had and not below a look of its notes, and is appended to its tickets; the
+-- rest of the view stays
 abbrev pub DrawsNext : Holding → ℕ → Holding → Type 0
 DrawsNext before ticket after =
     (after.left + 1 ≡ before.left) × (after.drawn ≡ before.drawn ++ ticket ∷ []) × All (λ t. t < ticket) before.drawn × (ticket < TICKET_LIMIT)
@@ -82,7 +83,7 @@ DrawsNext before ticket after =
     × (after.walk ≡ before.walk)
     × All (λ n. n.look ≤ ticket) before.noted
 
--- the notes that are known, if any are
+-- the notes that are known of the log; no notes if it is not known
 abbrev pub known_log : Option (List Note) → List Note
 known_log None = []
 known_log (Some log) = log
@@ -91,20 +92,20 @@ known_log (Some log) = log
 abbrev pub knows_log : Holding → Type 0
 knows_log h = h.log ≡ Some (known_log h.log)
 
--- what is left of a pass that gave the log away
+-- a pass after it gave the log away
 abbrev pub without_log : Holding → Holding
 without_log h = record h { log = None }
 
--- a pass that took the log
+-- a pass after it took the log of another view
 abbrev pub with_log : Holding → Holding → Holding
 with_log g h = record g { log = h.log }
 
--- the pass and the log after a note
+-- a pass that knows the log, after a note
 abbrev pub noting : ℕ → Effect → ℕ → Holding → Holding
 noting call effect look h =
     record h { noted = h.noted ++ note_at call effect look ∷ []; log = Some (known_log h.log ++ note_at call effect look ∷ []) }
 
--- the pass that knows the log notes an operation, at a look above its call ticket and not below the looks before
+-- the pass notes an operation in the log that it knows, at a look above its call ticket and not below the looks before
 abbrev pub NotesAt : ℕ → Effect → Holding → ℕ → Holding → Type 0
 NotesAt call effect before look after =
     (after ≡ noting call effect look before) × (call < look) × All (λ n. n.look ≤ look) (known_log before.log)
@@ -113,7 +114,7 @@ NotesAt call effect before look after =
 abbrev pub LooksAtShare : Holding → Type 0
 LooksAtShare h = (whole_of h ≤ TICKET_LIMIT) × IsStrictlyIncreasing h.drawn
 
--- x among rising numbers
+-- x in its place among rising numbers
 abbrev pub insert_rising : ℕ → List ℕ → List ℕ
 insert_rising x [] = x ∷ []
 insert_rising x (y ∷ ys) = cond (nat_lt x y) (x ∷ y ∷ ys) (y ∷ insert_rising x ys)
@@ -123,12 +124,12 @@ abbrev pub merged : List ℕ → List ℕ → List ℕ
 merged [] ys = ys
 merged (x ∷ xs) ys = insert_rising x (merged xs ys)
 
--- what is known of the log by one or the other
+-- the log that one view or the other knows; none if neither does
 abbrev pub either_log : Option (List Note) → Option (List Note) → Option (List Note)
 either_log None other = other
 either_log (Some log) other = Some log
 
--- what a pass is that took in another: the rests added, and the tickets and the notes of both
+-- a pass after another was joined to it: with the shares, the tickets and the notes of both
 abbrev pub put_together : Holding → Holding → Holding
 put_together g h = record {
   left = g.left + h.left;

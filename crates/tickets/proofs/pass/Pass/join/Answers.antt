@@ -23,13 +23,13 @@ join_seat-requires c = (
 pub load-requires : goal.load-requires
 load-requires c = (search rules, search rules, looks c.tickets.inside.table.shared.key _ _ _)
 
--- what the joined seat knows
+-- the view of the joined seat
 joined : (c : After-load) → c.load.new.seat.me.0 ≡ put_together (holding c.args.self.left c.args.self.drawn c.args.self.noted)
     (holding c.args.other.left c.args.other.drawn c.args.other.noted)
 joined c = ap (λ m. m.0) (c.load.ensures.2.1 ∙ c.join_seat.ensures.2)
     ∙ (λ i. put_together (c.into_parts-seat.ensures.seat i).0 (c.into_parts-other_seat.ensures.seat i).0)
 
--- the shares together
+-- the share of the joined seat
 whole : (c : After-load) → whole_of c.load.new.seat.me.0 ≡ share_of c.args.self + share_of c.args.other
 whole c = ap whole_of (joined c) ∙ whole_of-put_together (holding c.args.self.left c.args.self.drawn c.args.self.noted)
     (holding c.args.other.left c.args.other.drawn c.args.other.noted)

@@ -21,7 +21,7 @@ join_seat-requires c =
           (takes c.self.inside.table.shared.key c.into_parts-seat.result.0.id v c.into_seat.result.id c.args.log.notes (ap (λ m. m.0.log) c.into_parts-seat.ensures.seat)),
     )
 
--- what the seat knows that closes the table
+-- the view of the seat that closes the table
 joined : (c : After-free) → c.join_seat.new.seat.me.0 ≡ with_log (holding c.args.pass.left c.args.pass.drawn c.args.pass.noted) (logging c.args.log.notes)
 joined c = ap (λ m. m.0) c.join_seat.ensures.2
     ∙ (λ i. with_log (c.into_parts-seat.ensures.seat i).0 (c.into_seat.ensures.seat i).0)

@@ -28,7 +28,7 @@ join_seat-requires c =
           (ap (λ m. m.0.tail) c.into_parts-seat.ensures.seat, ap (λ m. m.0.head) c.into_parts-seat.ensures.seat)),
     )
 
--- what the seat knows that closes the table
+-- the view of the seat that closes the table
 joined : (c : After-free) → c.join_seat.new.seat.me.0 ≡ with_ends (holding c.args.pass.left c.args.pass.drawn c.args.pass.noted)
     (ends None (Some (head_at c.into_seat.ensures.seat.0 c.into_seat.ensures.seat.1 c.args.head.initial false)))
 joined c = ap (λ m. m.0) c.join_seat.ensures.2
