@@ -18,13 +18,13 @@ use Rattle.tickets.specs.declared.account.Aim.TheVariants.{Put, Find, Read}
 use Rattle.tickets.specs.declared.note.Effect.TheVariants as effect
 use Rattle.tickets.specs.declared.note.Note.{Note}
 use Rattle.tickets.specs.Log.{knowers, note_at}
-use Rattle.tickets.specs.Nodes.{queue_after, queue_after_one}
-use Rattle.tickets.specs.Inner.Account.{AreBeside, initial_of, shared_initial, shared_room}
-use Rattle.tickets.specs.Inner.Nodes.{holders, FitsTail, FitsHead, AreNodes}
+use Rattle.tickets.specs.Queue.{queue_after, queue_after_one}
+use Rattle.tickets.specs.Inner.Account.{AreBeside, AreOwned, initial_of, room_of}
+use Rattle.tickets.specs.Inner.Ring.{ends_of, holders, FitsTail, FitsHead, AreNodes}
 use Rattle.tickets.specs.Inner.Shared.{AreFullBefore, FitsAim, FitsWalk, AreFilled, rights, AreShared}
 use Rattle.tickets.proofs.Apart.{place_in}
 use Rattle.tickets.proofs.Logged.{at_place}
-use Rattle.tickets.proofs.Rows.{counts-set, knowers_of, queue_more, nodes_same, nodes_split, nodes_join, nodes_known}
+use Rattle.tickets.proofs.Rows.{counts-set, knowers_of, queue_more, nodes_same, nodes_split, nodes_join}
 
 -- ---- the row
 
@@ -311,11 +311,28 @@ module _ (initial : List ℕ) (room : ℕ) (row : List ℕ) (log : List Note) (v
 
 -- ---- the words after the ticket word
 
+-- a pass among those of which none has an end
+no_end : (views : List Holding) (i : ℕ) (v : Holding) → sum_by ends_of views ≡ 0 → get_elem? views i ≡ some v → ends_of v ≡ 0
+no_end views i v none at =
+    let p = place_in views i v at in
+    let within = get_or-le-sum_by ends_of views i v p.0 in
+    let is = ap ends_of (p.1 v) in
+    omega arith
+
 module _ (setup : Setup) (row : List ℕ) (log : List Note) (views : List Holding) where
-  -- a pass changes, and keeps its rights and its call
+  -- a pass with the same rights, at the same node
   pub beside_same : AreBeside setup row log views → (i : ℕ) (v w : Holding) → get_elem? views i ≡ some v → w.log ≡ v.log → w.tail ≡ v.tail → w.head ≡ v.head
       → w.walk ≡ v.walk → AreBeside setup row log (set views i w)
-  beside_same (inl n) i v w at same_log tail head walk = inl (n.0, nodes_same _ _ _ views n.1 i v w at same_log tail head)
+  beside_same (inl n) i v w at same_log tail head walk = inl (n.0, by_form n.1)
+    where
+      by_form : AreOwned setup row log views → AreOwned setup row log (set views i w)
+      by_form (inl p) =
+          let a = counts-set ends_of views i v w at in
+          let y = ap holders tail in
+          let z = ap holders head in
+          let none = p.1 in
+          inl (p.0, omega arith)
+      by_form (inr r) = inr (r.0, nodes_same _ _ _ _ views r.1 i v w at same_log tail head)
   beside_same (inr n) i v w at same_log tail head walk =
       inr (
         n.0,
@@ -323,14 +340,22 @@ module _ (setup : Setup) (row : List ℕ) (log : List Note) (views : List Holdin
             (subst (FitsWalk row) (sym walk) (at_place (λ h. FitsWalk row h.walk) views i v at n.1.walks)) refl n.1.filled,
       )
 
-  -- a pass gives some of its rights to a new one
-  pub beside_split : AreBeside setup row log views → (i : ℕ) (v left right : Holding) → get_elem? views i ≡ some v → knowers left.log + knowers right.log ≡ knowers v.log
+  -- a pass whose rights are cut in two
+  pub beside_split : AreBeside setup row log views → (i : ℕ) (v left right : Holding) → get_elem? views i ≡ some v
+      → knowers left.log + knowers right.log ≡ knowers v.log
       → holders left.tail + holders right.tail ≡ holders v.tail → holders left.head + holders right.head ≡ holders v.head
-      → (FitsTail row v.tail → FitsTail row left.tail × FitsTail row right.tail)
-      → ((at : ℕ) → FitsHead at (initial_of setup) row v.head → FitsHead at (initial_of setup) row left.head × FitsHead at (initial_of setup) row right.head)
+      → ((room put taken : ℕ) → FitsTail room put taken row v.tail → FitsTail room put taken row left.tail × FitsTail room put taken row right.tail)
+      → ((room put taken : ℕ) → FitsHead room put taken row v.head → FitsHead room put taken row left.head × FitsHead room put taken row right.head)
       → left.walk ≡ v.walk → right.walk ≡ None → AreBeside setup row log (set views i left ++ right ∷ [])
-  beside_split (inl n) i v left right at knows tail head fit_tail fit_head walk rest =
-      inl (n.0, nodes_split _ _ _ views n.1 i v left right at knows tail head fit_tail fit_head)
+  beside_split (inl n) i v left right at knows tail head fit_tail fit_head walk rest = inl (n.0, by_form n.1)
+    where
+      by_form : AreOwned setup row log views → AreOwned setup row log (set views i left ++ right ∷ [])
+      by_form (inl p) =
+          let a = counts-set ends_of views i v left at in
+          let a' = sum_by_push ends_of (set views i left) right in
+          let none = p.1 in
+          inl (p.0, omega arith)
+      by_form (inr r) = inr (r.0, nodes_split _ _ _ _ views r.1 i v left right at knows tail head (fit_tail _ _ _) (fit_head _ _ _))
   beside_split (inr n) i v left right at knows tail head fit_tail fit_head walk rest =
       let a = counts-set rights views i v left at in
       let a' = sum_by_push rights (set views i left) right in
@@ -347,16 +372,25 @@ module _ (setup : Setup) (row : List ℕ) (log : List Note) (views : List Holdin
         },
       )
 
-  -- a pass takes the rights of another, which keeps none
-  pub beside_join : AreBeside setup row log views → (i j : ℕ) (v w m s : Holding) → get_elem? views i ≡ some v → get_elem? (set views i m) j ≡ some w → get_elem? views j ≡ some w
+  -- a pass takes the rights of another, which is left with none
+  pub beside_join : AreBeside setup row log views → (i j : ℕ) (v w m s : Holding) → get_elem? views i ≡ some v → get_elem? (set views i m) j ≡ some w
+      → get_elem? views j ≡ some w
       → knowers m.log + knowers s.log ≡ knowers v.log + knowers w.log → holders m.tail + holders s.tail ≡ holders v.tail + holders w.tail
       → holders m.head + holders s.head ≡ holders v.head + holders w.head
-      → (FitsTail row v.tail → FitsTail row w.tail → FitsTail row m.tail × FitsTail row s.tail)
-      → ((at : ℕ) → FitsHead at (initial_of setup) row v.head → FitsHead at (initial_of setup) row w.head
-      → FitsHead at (initial_of setup) row m.head × FitsHead at (initial_of setup) row s.head)
+      → ((room put taken : ℕ) → FitsTail room put taken row v.tail → FitsTail room put taken row w.tail
+      → FitsTail room put taken row m.tail × FitsTail room put taken row s.tail)
+      → ((room put taken : ℕ) → FitsHead room put taken row v.head → FitsHead room put taken row w.head
+      → FitsHead room put taken row m.head × FitsHead room put taken row s.head)
       → (FitsWalk row v.walk → FitsWalk row m.walk) → s.walk ≡ None → AreBeside setup row log (set (set views i m) j s)
-  beside_join (inl n) i j v w m s at there here knows tail head fit_tail fit_head fit_walk rest =
-      inl (n.0, nodes_join _ _ _ views n.1 i j v w m s at there here knows tail head fit_tail fit_head)
+  beside_join (inl n) i j v w m s at there here knows tail head fit_tail fit_head fit_walk rest = inl (n.0, by_form n.1)
+    where
+      by_form : AreOwned setup row log views → AreOwned setup row log (set (set views i m) j s)
+      by_form (inl p) =
+          let a = counts-set ends_of views i v m at in
+          let a' = counts-set ends_of (set views i m) j w s there in
+          let none = p.1 in
+          inl (p.0, omega arith)
+      by_form (inr r) = inr (r.0, nodes_join _ _ _ _ views r.1 i j v w m s at there here knows tail head (fit_tail _ _ _) (fit_head _ _ _))
   beside_join (inr n) i j v w m s at there here knows tail head fit_tail fit_head fit_walk rest =
       let a = counts-set rights views i v m at in
       let a' = counts-set rights (set views i m) j w s there in
@@ -373,19 +407,47 @@ module _ (setup : Setup) (row : List ℕ) (log : List Note) (views : List Holdin
         },
       )
 
-  -- the pass that knows the log adds a note
-  pub beside_known : AreBeside setup row log views → (i : ℕ) (v w : Holding) (log' : List Note) → get_elem? views i ≡ some v → knowers v.log ≡ 1 → knowers w.log ≡ 1
+  -- a note of who knows the log
+  pub beside_known : AreBeside setup row log views → (i : ℕ) (v w : Holding) (log' : List Note) → get_elem? views i ≡ some v → knowers v.log ≡ 1
       → w.tail ≡ v.tail → w.head ≡ v.head → AreBeside setup row log' (set views i w)
-  beside_known (inl n) i v w log' at knows knows' tail head = inl (n.0, nodes_known _ _ _ views n.1 i v w log' at knows knows' tail head)
-  beside_known (inr n) i v w log' at knows knows' tail head = let none = no_right views i v n.1.none at in absurd (omega arith)
+  beside_known (inl n) i v w log' at knows tail head = inl (n.0, by_form n.1)
+    where
+      by_form : AreOwned setup row log views → AreOwned setup row log' (set views i w)
+      by_form (inl p) =
+          let a = counts-set ends_of views i v w at in
+          let y = ap holders tail in
+          let z = ap holders head in
+          let none = p.1 in
+          inl (p.0, omega arith)
+      by_form (inr r) =
+          let p = place_in views i v at in
+          let within = get_or-le-sum_by knowers_of views i v p.0 in
+          let is = ap knowers_of (p.1 v) in
+          let none = r.1.unknown in
+          absurd (omega arith)
+  beside_known (inr n) i v w log' at knows tail head = let none = no_right views i v n.1.none at in absurd (omega arith)
 
-  -- if a pass has an end, the nodes have two ends
-  pub ends_beside : AreBeside setup row log views → (i : ℕ) (v : Holding) → get_elem? views i ≡ some v → 0 < holders v.tail + holders v.head
-      → (setup.is_shared ≡ false) × AreNodes (initial_of setup) row log views
-  ends_beside (inl n) i v at has = n
+  -- there is a ring if a pass has an end
+  pub ends_beside : AreBeside setup row log views → (i : ℕ) (v : Holding) → get_elem? views i ≡ some v → 0 < ends_of v
+      → (setup.is_shared ≡ false) × (setup.has_ring ≡ true) × AreNodes (initial_of setup) (room_of setup) row log views
+  ends_beside (inl n) i v at has = (let r = by_form n.1 in (n.0, r.0, r.1))
+    where
+      by_form : AreOwned setup row log views → (setup.has_ring ≡ true) × AreNodes (initial_of setup) (room_of setup) row log views
+      by_form (inl p) = let none = no_end views i v p.1 at in absurd (omega arith)
+      by_form (inr r) = r
   ends_beside (inr n) i v at has = let none = no_right views i v n.1.none at in absurd (omega arith)
 
-  -- if the setup says so, the nodes are those that all passes share
-  pub shared_beside : AreBeside setup row log views → setup.is_shared ≡ true → AreShared (shared_initial setup) (shared_room setup) row log views
+  -- the ring
+  pub ring_beside : AreBeside setup row log views → setup.has_ring ≡ true → setup.is_shared ≡ false
+      → AreNodes (initial_of setup) (room_of setup) row log views
+  ring_beside (inl n) ring unshared = by_form n.1
+    where
+      by_form : AreOwned setup row log views → AreNodes (initial_of setup) (room_of setup) row log views
+      by_form (inl p) = absurd (false≢true (sym p.0 ∙ ring))
+      by_form (inr r) = r.1
+  ring_beside (inr n) ring unshared = absurd (false≢true (sym unshared ∙ n.0))
+
+  -- nodes that passes share
+  pub shared_beside : AreBeside setup row log views → setup.is_shared ≡ true → AreShared (initial_of setup) (room_of setup) row log views
   shared_beside (inl n) shared = absurd (false≢true (sym n.0 ∙ shared))
   shared_beside (inr n) shared = n.1

@@ -1,41 +1,162 @@
--- Each step at an end of the nodes keeps the account.
-use Rattle.std.proofs.Common.{◌≡◌, ◌≢◌, ℕ, ◌+◌, ◌<◌, ◌≤◌, Bool, true, false, List, [], ◌∷◌, ◌++◌, length, set, get_or, sum_by}
-use Rattle.std.proofs.Common.{IsPermutation, refl, sym, ap, ◌∙◌, subst, arith, length-set, get_or-set_same, get_or-set_other, get_or-drop, get_or-take, length-take-le}
+-- Each step at an end of the ring keeps the account.
+use Rattle.std.proofs.Common.{◌≡◌, ◌≢◌, ℕ, suc, ◌+◌, ◌<◌, ◌≤◌, Bool, true, false, List, [], ◌∷◌, ◌++◌, length, set, get_or, sum_by, replicate, ◌-◌}
+use Rattle.std.proofs.Common.{IsPermutation, refl, sym, ap, ◌∙◌, subst, arith, length-set, get_or-set_same, get_or-set_other, get_or-drop, length-append}
 use Rattle.std.specs.Prelude.{Option, Some, None, Contains, drop, IsSome, take, if◌then◌else◌}
 use mathlib.Core.Option.{some}
 use mathlib.Core.Logic.{◌⊎◌, inl, inr}
 use lib.ListN.{get_elem?}
-use Rattle.std.proofs.lemmas.Bool.{cases_eq, false≢true}
+use Rattle.std.proofs.lemmas.Bool.{cases_eq, cases_lt}
 use Rattle.atomic_table.specs.Table.{Act, Valid, carried_after, Me, keeps, stepped, Allows, Splits, Joins, Seen, Final, opening}
 use Rattle.atomic_table.proofs.Lists.{set_else}
 use Rattle.tickets.specs.declared.account.Holding.{Holding}
 use Rattle.tickets.specs.declared.account.Setup.{Setup}
 use Rattle.tickets.specs.declared.account.TailRight.{TailRight}
 use Rattle.tickets.specs.declared.account.HeadRight.{HeadRight}
+use Rattle.tickets.specs.declared.account.Next.{Next}
+use Rattle.tickets.specs.declared.account.Next.TheVariants.{Unknown, There, Holds}
 use Rattle.tickets.specs.declared.note.Effect.TheVariants as effect
 use Rattle.tickets.specs.declared.note.Note.{Note}
+use Rattle.tickets.specs.declared.TheConstants.{NO_VALUE}
 use Rattle.tickets.specs.Account.{whole_of, IsAccount}
 use Rattle.tickets.specs.Log.{IsLogged, LooksRise, Knows, note_at, knowers}
-use Rattle.std.proofs.lemmas.List.{length-drop}
+use Rattle.std.proofs.lemmas.List.{length-replicate, get_or_append_left}
 use Rattle.std.proofs.lemmas.List.Elements.{All-nil, All-cons}
 use Rattle.std.proofs.lemmas.List.Sums.{sum_by-cons}
 use Rattle.std.proofs.lemmas.List.Sorted.{IsPermutation-refl}
 use Rattle.std.specs.List.Sorted.{IsStrictlyIncreasing}
+use Rattle.std.proofs.Math.Nat.{mod-eq_of_lt}
 use Rattle.tickets.specs.declared.TheConstants.{TICKET_LIMIT}
-use Rattle.tickets.specs.Nodes.{queue_after}
-use Rattle.tickets.specs.Inner.Account.{AreBooked, AreBeside, KeepsAccount, holding, initial_of, first_of, with_both, with_known}
-use Rattle.tickets.specs.Inner.Nodes.{tail_at, head_at, ends, without_ends, with_ends, holders, tail_rights, head_rights, FitsTail, FitsHead, IsLaid, AreNodes}
-use Rattle.tickets.specs.Inner.Nodes.{told, stages, staged_tail, Publishes, Refuses, FindsOne, Reads}
+use Rattle.tickets.specs.Queue.{bounded_after, effect_of_put, queue_after}
+use Rattle.tickets.specs.Inner.Account.{AreBooked, AreBeside, KeepsAccount, holding, initial_of, room_of, first_of, with_both, with_known}
+use Rattle.tickets.specs.Inner.Ring.{tail_at, head_at, ends, without_ends, with_ends, holders, ends_of, position, cell, FitsStaged, FitsTail, FitsNext, FitsHead}
+use Rattle.tickets.specs.Inner.Ring.{IsLaid, AreNodes, IsTailAt, IsHeadAt, told, seen_tail, staged_tail, pushed_tail, known_head, freed_head, stages, reads}
+use Rattle.tickets.specs.Inner.Ring.{Glances, HasRoom, Publishes, PutsOne, FindsOne, Frees, TakesOne}
+use Rattle.tickets.specs.Inner.Shared.{row_words}
 use Rattle.tickets.proofs.Logged.{logged_same, logged_push, logged_more, logged_all, at_place}
-use Rattle.tickets.proofs.Beside.{beside_split, beside_join, ends_beside}
-use Rattle.tickets.proofs.Rows.{nodes_at_tail, nodes_at_head, nodes_unknown, nodes_unknown_at_head, knowers_of}
-use Rattle.tickets.proofs.Rows.{laid_staged, laid_pushed, laid_refused, laid_empty, laid_taken}
+use Rattle.tickets.proofs.Beside.{beside_split, beside_join, ends_beside, ring_beside}
+use Rattle.tickets.proofs.Rows.{nodes_at_tail, nodes_at_head, knowers_of, tails_of, heads_of, bounded_is_queue}
+use Rattle.tickets.proofs.Rows.{laid_staged, laid_pushed, laid_full, laid_empty, laid_taken}
+use Rattle.tickets.proofs.Turns.{same_position, next_position, position_within, full_ring, free_ring}
 use Rattle.tickets.proofs.Steps.{kept, kept_else, kept_seen, account_same, account_push, contains_some, drawn_below, HasNoEnd, first_word, others_idle, none_rise, first_plain}
 
--- if the counts differ by the length of a queue and are not the same, the queue holds a value
-more_left : (t at : ℕ) (queue : List ℕ) → t ≢ at → t ≡ at + length queue → at < t
-more_left t at [] other count = absurd (other (omega arith))
-more_left t at (x ∷ rest) other count = omega arith
+-- the tail end, of which this is known
+tail_of : (at seen room : ℕ) (staged : Option ℕ) (k : Option TailRight) → IsTailAt at seen room staged k
+    → (t : TailRight) × (k ≡ Some t) × (at ≡ position room t.at) × (seen ≡ position room t.seen) × (t.room ≡ room) × (t.staged ≡ staged)
+tail_of at seen room staged None is = absurd is
+tail_of at seen room staged (Some t) is = (t, refl, is.0, is.1, is.2, is.3)
+
+-- the head end, of which this is known
+head_of : (at room : ℕ) (next : Next) (k : Option HeadRight) → IsHeadAt at room next k
+    → (h : HeadRight) × (k ≡ Some h) × (at ≡ position room h.at) × (h.room ≡ room) × (h.next ≡ next)
+head_of at room next None is = absurd is
+head_of at room next (Some h) is = (h, refl, is.0, is.1, is.2)
+
+-- the position after the one that is known
+step_on : (at room n : ℕ) → at ≡ position room n → position room (at + 1) ≡ position room (n + 1)
+step_on at room n is = ap (λ (k : ℕ). position room (k + 1)) is ∙ next_position room n
+
+-- ---- what a call knows after a step
+
+pub glanced_full : (call x next room : ℕ) (before : Holding) (found : ℕ) (after : Holding) → Glances call x next room before found after → found ≡ next
+    → (look : ℕ) × (after ≡ told call (effect.Not x) look before)
+glanced_full call x next room before found after (inl full) e = (full.1, full.2)
+glanced_full call x next room before found after (inr free) e = absurd (free.0 e)
+
+pub glanced_free : (call x next room : ℕ) (before : Holding) (found : ℕ) (after : Holding) → Glances call x next room before found after → found ≢ next
+    → (seen : ℕ) × (found ≡ position room seen) × (after ≡ record before { tail = seen_tail seen before.tail })
+glanced_free call x next room before found after (inl full) ne = absurd (ne full.0)
+glanced_free call x next room before found after (inr free) ne = (free.1, free.2, free.3)
+
+pub found_none : (call at : ℕ) (before : Holding) (found : ℕ) (after : Holding) → FindsOne call at before found after → found ≡ at
+    → (look : ℕ) × (after ≡ told call effect.Empty look before)
+found_none call at before found after (inl none) e = (none.1, none.2)
+found_none call at before found after (inr holds) e = absurd (holds.0 e)
+
+pub found_some : (call at : ℕ) (before : Holding) (found : ℕ) (after : Holding) → FindsOne call at before found after → found ≢ at
+    → after ≡ record before { head = known_head There before.head }
+found_some call at before found after (inl none) ne = absurd (ne none.0)
+found_some call at before found after (inr holds) ne = holds.1
+
+pub seen_at : (at seen room to : ℕ) (k : Option TailRight) → IsTailAt at seen room None k → IsTailAt at (position room to) room None (seen_tail to k)
+seen_at at seen room to None is = is
+seen_at at seen room to (Some t) is = (is.0, refl, is.2, is.3)
+
+pub staged_at : (at seen room x : ℕ) (k : Option TailRight) → IsTailAt at seen room None k → IsTailAt at seen room (Some x) (staged_tail x k)
+staged_at at seen room x None is = is
+staged_at at seen room x (Some t) is = (is.0, is.1, is.2, refl)
+
+pub pushed_at : (at seen room x : ℕ) (k : Option TailRight) → IsTailAt at seen room (Some x) k
+    → IsTailAt (position room (at + 1)) seen room None (pushed_tail k)
+pushed_at at seen room x None is = is
+pushed_at at seen room x (Some t) is = (step_on at room t.at is.0, is.1, is.2, refl)
+
+pub known_at : (at room : ℕ) (next to : Next) (k : Option HeadRight) → IsHeadAt at room next k → IsHeadAt at room to (known_head to k)
+known_at at room next to None is = is
+known_at at room next to (Some h) is = (is.0, is.1, refl)
+
+pub freed_at : (at room : ℕ) (next : Next) (k : Option HeadRight) → IsHeadAt at room next k → IsHeadAt (position room (at + 1)) room Unknown (freed_head k)
+freed_at at room next None is = is
+freed_at at room next (Some h) is = (step_on at room h.at is.0, is.1, refl)
+
+-- a value went through all steps at the tail
+pub puts_one : (call x at seen room : ℕ) (m0 m1 m2 m3 : Me (Unit {0}) Holding) → HasRoom at seen room m0 m1 → m2 ≡ (stages x m1.0, m1.1)
+    → Publishes call x m2.0 m3.0 → m3.1 ≡ m2.1 → (to : ℕ) → to ≡ position room (at + 1) → PutsOne call x to seen room true m0 m3
+puts_one call x at seen room m0 m1 m2 m3 has stage publish carried to to_is = record {
+  look = publish.0;
+  is = λ i. (whole i, rest i);
+  tail = subst (λ (k : ℕ). IsTailAt k seen room None m3.0.tail) (sym to_is) (subst (IsTailAt (position room (at + 1)) seen room None) (sym tail)
+      (pushed_at at seen room x (staged_tail x m1.0.tail) (staged_at at seen room x m1.0.tail has.tail)));
+}
+  where
+    through : m3.0 ≡ record (told call (effect.Enq x) publish.0 m0.0) { tail = pushed_tail (staged_tail x m1.0.tail) }
+    through = publish.1 ∙ ap (λ (m : Me (Unit {0}) Holding). record (told call (effect.Enq x) publish.0 m.0) { tail = pushed_tail m.0.tail }) stage
+        ∙ ap (λ (m : Me (Unit {0}) Holding). record (told call (effect.Enq x) publish.0 (stages x m.0)) { tail = pushed_tail (staged_tail x m1.0.tail) }) has.is
+
+    tail : m3.0.tail ≡ pushed_tail (staged_tail x m1.0.tail)
+    tail = ap (λ (h : Holding). h.tail) through
+
+    whole : m3.0 ≡ record (told call (effect_of_put x true) publish.0 m0.0) { tail = m3.0.tail }
+    whole = through ∙ ap (λ (k : Option TailRight). record (told call (effect.Enq x) publish.0 m0.0) { tail = k }) (sym tail)
+
+    rest : m3.1 ≡ m0.1
+    rest = carried ∙ ap (λ (m : Me (Unit {0}) Holding). m.1) stage ∙ ap (λ (m : Me (Unit {0}) Holding). m.1) has.is
+
+-- a value went through all steps at the head
+pub takes_one : (call x at room : ℕ) (m0 m1 m2 m3 : Me (Unit {0}) Holding) → IsHeadAt at room Unknown m0.0.head
+    → m1.0 ≡ record m0.0 { head = known_head There m0.0.head } → m1.1 ≡ m0.1 → m2 ≡ (reads x m1.0, m1.1)
+    → Frees call x m2.0 m3.0 → m3.1 ≡ m2.1 → (to : ℕ) → to ≡ position room (at + 1) → TakesOne call to room (Some x) m0 m3
+takes_one call x at room m0 m1 m2 m3 asks found carried read free carried' to to_is = record {
+  look = free.0;
+  is = λ i. (whole i, rest i);
+  head = subst (λ (k : ℕ). IsHeadAt k room Unknown m3.0.head) (sym to_is) (subst (IsHeadAt (position room (at + 1)) room Unknown) (sym head) (freed_at at room (Holds x) (last m0.0.head)
+      (known_at at room There (Holds x) (known_head There m0.0.head) (known_at at room Unknown There m0.0.head asks))));
+}
+  where
+    last : Option HeadRight → Option HeadRight
+    last k = known_head (Holds x) (known_head There k)
+
+    through : m3.0 ≡ record (told call (effect.Deq x) free.0 m0.0) { head = freed_head (last m0.0.head) }
+    through = free.1 ∙ ap (λ (m : Me (Unit {0}) Holding). record (told call (effect.Deq x) free.0 m.0) { head = freed_head m.0.head }) read
+        ∙ ap (λ (h : Holding). record (told call (effect.Deq x) free.0 h) { head = freed_head (known_head (Holds x) h.head) }) found
+
+    head : m3.0.head ≡ freed_head (last m0.0.head)
+    head = ap (λ (h : Holding). h.head) through
+
+    whole : m3.0 ≡ record (told call (effect.Deq x) free.0 m0.0) { head = m3.0.head }
+    whole = through ∙ ap (λ (k : Option HeadRight). record (told call (effect.Deq x) free.0 m0.0) { head = k }) (sym head)
+
+    rest : m3.1 ≡ m0.1
+    rest = carried' ∙ ap (λ (m : Me (Unit {0}) Holding). m.1) read ∙ carried
+
+-- ---- the steps
+
+-- values are left if the counts differ
+some_left : (put taken queue : ℕ) → put ≡ taken + queue → put ≢ taken → taken < put
+some_left put taken queue count other = by_order (cases_lt taken put)
+  where
+    by_order : (taken < put) ⊎ (put ≤ taken) → taken < put
+    by_order (inl less) = less
+    by_order (inr more) = absurd (other (omega arith))
 
 module _ (setup : Setup) where
   pub booked : (n : ℕ) (words : List ℕ) (log : List Note) (views : List Holding) → IsLogged n log views → AreBeside setup (drop 1 words) log views
@@ -54,7 +175,7 @@ module _ (setup : Setup) where
         record {
           log = r.1.log;
           logged = logged_push n r.1.log (set s.views id w) new (logged_same n n r.1.log s.views id v w (omega arith) r.1.logged at refl refl (λ e. e)) refl refl;
-          nodes = beside_split setup _ _ s.views r.1.nodes id v w new at (omega arith) (omega arith) (omega arith) (λ fits. (tt, fits)) (λ _ fits. (tt, fits)) refl refl;
+          nodes = beside_split setup _ _ s.views r.1.nodes id v w new at (omega arith) (omega arith) (omega arith) (λ _ _ _ fits. (tt, fits)) (λ _ _ _ fits. (tt, fits)) refl refl;
         },
       )
 
@@ -68,7 +189,7 @@ module _ (setup : Setup) where
         record {
           log = r.1.log;
           logged = logged_push n r.1.log (set s.views id w) new (logged_same n n r.1.log s.views id v w (omega arith) r.1.logged at refl refl (λ e. e)) refl refl;
-          nodes = beside_split setup _ _ s.views r.1.nodes id v w new at (omega arith) (omega arith) (omega arith) (λ fits. (fits, tt)) (λ _ fits. (tt, fits)) refl refl;
+          nodes = beside_split setup _ _ s.views r.1.nodes id v w new at (omega arith) (omega arith) (omega arith) (λ _ _ _ fits. (fits, tt)) (λ _ _ _ fits. (tt, fits)) refl refl;
         },
       )
 
@@ -89,215 +210,346 @@ module _ (setup : Setup) where
           logged = logged_same n n r.1.log (set s.views id m) other w spent (omega arith)
               (logged_same n n r.1.log s.views id v m (omega arith) r.1.logged at refl refl (λ e. e)) there refl refl (λ _. refl);
           nodes = beside_join setup _ _ s.views r.1.nodes id other v w m spent at there here (omega arith) (omega arith) (omega arith)
-              (λ _ fits. (fits, tt)) (λ _ _ fits. (fits, tt)) (λ fits. fits) refl;
+              (λ _ _ _ _ fits. (fits, tt)) (λ _ _ _ _ fits. (fits, tt)) (λ fits. fits) refl;
         },
       )
 
   -- ---- at the tail
 
-  -- a value is written into the next node
-  pub writes : (slots id : ℕ) (me : Me (Unit {0}) Holding) (at room x : ℕ) → me.0.tail ≡ Some (tail_at at room None) → at < room
-      → Allows (KeepsAccount setup) slots id me (at + 2) (λ _. x) (λ _ after. after ≡ (stages x me.0, me.1))
-  writes slots id me at room x has inside s r _ here _ =
-      let v = me.0 in
-      let w = stages x v in
-      let n : ℕ = get_or s.words 0 0 in
-      let row = drop 1 s.words in
-      let more = set row (at + 1) x in
-      let b = r.1 in
-      let o = ends_beside setup _ _ s.views b.nodes id v here (let one = ap holders has in omega arith) in
-      let fits : FitsTail row (Some (tail_at at room None)) = subst (FitsTail row) has (at_place (λ h. FitsTail row h.tail) s.views id v here o.1.tails) in
-      let now : w.tail ≡ Some (tail_at at room (Some x)) = ap (staged_tail x) has in
-      let long = length-set row (at + 1) x in
-      let wide = fits.1 in
-      let first : get_or more 0 0 ≡ get_or row 0 0 = get_or-set_other row (at + 1) 0 x 0 (λ e. absurd (omega arith)) in
-      let nodes = nodes_at_tail _ row b.log s.views o.1 id v w more b.log here (ap holders has) (ap holders now) refl refl long (omega arith)
-      (subst (FitsTail more) (sym now) (first ∙ fits.0, long ∙ fits.1, get_or-set_same row (at + 1) x 0 (omega arith)))
-      (λ h laid. subst (λ (k : ℕ). IsLaid (initial_of setup) (set row (k + 1) x) b.log h) fits.0 (laid_staged _ row b.log h laid x)) in (
-        w,
-        keeps,
-        tt,
-        kept_else setup s.words (at + 2) (at + 1) x b.log (set s.views id w) (omega arith) r.0.0 (account_same setup n s.views id v w r.0.1 here refl refl)
-            (logged_same n n b.log s.views id v w (omega arith) b.logged here refl refl (λ e. e)) (inl (o.0, nodes)),
-        refl,
-      )
+  module _ (slots id : ℕ) (me : Me (Unit {0}) Holding) (call at seen room : ℕ) (staged : Option ℕ) (is : IsTailAt at seen room staged me.0.tail) where
+    abbrev t : TailRight
+    t = (tail_of at seen room staged me.0.tail is).0
 
-  -- the staged value is enqueued
-  pub publishes : (slots id : ℕ) (me : Me (Unit {0}) Holding) (call at room x : ℕ) → me.0.tail ≡ Some (tail_at at room (Some x)) → at < room
-      → Contains me.0.drawn call
-      → Allows (KeepsAccount setup) slots id me 1 (λ _. at + 1) (λ _ after. Publishes call x at room me.0 after.0 × (after.1 ≡ me.1))
-  publishes slots id me call at room x has inside drew s r _ here _ =
-      let v = me.0 in
-      let n : ℕ = get_or s.words 0 0 in
-      let w = record (told call (effect.Enq x) n v) { tail = Some (tail_at (at + 1) room None) } in
-      let row = drop 1 s.words in
-      let more = set row 0 (at + 1) in
-      let b = r.1 in
-      let o = ends_beside setup _ _ s.views b.nodes id v here (let one = ap holders has in omega arith) in
-      let log' = b.log ++ note_at call (effect.Enq x) n ∷ [] in
-      let fits : FitsTail row (Some (tail_at at room (Some x))) =
-      subst (FitsTail row) has (at_place (λ h. FitsTail row h.tail) s.views id v here o.1.tails) in
-      let long = length-set row 0 (at + 1) in
-      let wide = fits.1 in
-      let full = fits.0 in
-      let first : get_or more 0 0 ≡ at + 1 = get_or-set_same row 0 (at + 1) 0 (omega arith) in
-      let nodes = nodes_at_tail _ row b.log s.views o.1 id v w more log' here (ap holders has) refl refl refl long (omega arith)
-      (first, long ∙ fits.1, tt)
-      (λ h laid. subst (λ (k : ℕ). (k + 1 < length row) → get_or row (k + 1) 0 ≡ x → IsLaid (initial_of setup) (set row 0 (k + 1)) log' h) fits.0
-      (laid_pushed _ row b.log h laid x call n) (omega arith) fits.2) in (
-        w,
-        keeps,
-        tt,
-        kept_else setup s.words 1 0 (at + 1) log' (set s.views id w) refl r.0.0 (account_same setup n s.views id v w r.0.1 here refl refl)
-            (logged_more n r.1.log s.views id v w call (effect.Enq x) b.logged here (nodes_unknown _ row b.log s.views o.1 id v here (ap holders has)) refl refl refl
-            (contains_some v.drawn call drew) (drawn_below setup n s.views id v call r.0.1 here drew)) (inl (o.0, nodes)),
-        ((n, refl), refl),
-      )
+    abbrev has : me.0.tail ≡ Some t
+    has = (tail_of at seen room staged me.0.tail is).1
 
-  -- the enqueue fails
-  pub refuses : (slots id : ℕ) (me : Me (Unit {0}) Holding) (call at room x : ℕ) → me.0.tail ≡ Some (tail_at at room None) → Contains me.0.drawn call
-      → Allows (KeepsAccount setup) slots id me 0 (λ n. n) (λ _ after. Refuses call x me.0 after.0 × (after.1 ≡ me.1))
-  refuses slots id me call at room x has drew s r _ here _ =
-      let v = me.0 in
-      let n : ℕ = get_or s.words 0 0 in
-      let w = told call (effect.Not x) n v in
-      let row = drop 1 s.words in
-      let b = r.1 in
-      let o = ends_beside setup _ _ s.views b.nodes id v here (let one = ap holders has in omega arith) in
-      let log' = b.log ++ note_at call (effect.Not x) n ∷ [] in
-      let nodes = nodes_at_tail _ row b.log s.views o.1 id v w row log' here (ap holders has) (ap holders has) refl refl refl (omega arith)
-      (at_place (λ h. FitsTail row h.tail) s.views id v here o.1.tails) (λ h laid. laid_refused _ row b.log h laid x call n) in (
-        w,
-        keeps,
-        tt,
-        kept setup s.words n (set s.views id w) r.0.0 (account_same setup n s.views id v w r.0.1 here refl refl)
-            (booked n s.words log' (set s.views id w) (logged_more n r.1.log s.views id v w call (effect.Not x) b.logged here
-            (nodes_unknown _ row b.log s.views o.1 id v here (ap holders has)) refl refl refl
-            (contains_some v.drawn call drew) (drawn_below setup n s.views id v call r.0.1 here drew)) (inl (o.0, nodes))),
-        ((n, refl), refl),
-      )
+    -- the tail end looks where the head is
+    pub glances : (x : ℕ) → staged ≡ None → Contains me.0.drawn call
+        → Allows (KeepsAccount setup) slots id me 2 (λ n. n) (λ found after. Glances call x (position room (at + 1)) room me.0 found after.0 × (after.1 ≡ me.1))
+    glances x unstaged drew s r _ here _ = by_found (cases_eq (get_or s.words 2 0) (position room (at + 1)))
+      where
+        row : List ℕ
+        row = drop 1 s.words
+
+        n : ℕ
+        n = get_or s.words 0 0
+
+        own : (setup.is_shared ≡ false) × (setup.has_ring ≡ true) × AreNodes (initial_of setup) (room_of setup) row r.1.log s.views
+        own = ends_beside setup _ _ s.views r.1.nodes id me.0 here (let one = ap holders has in omega arith)
+
+        fits : FitsTail (room_of setup) own.2.put own.2.taken row (Some t)
+        fits = subst (FitsTail (room_of setup) own.2.put own.2.taken row) has
+            (at_place (λ h. FitsTail (room_of setup) own.2.put own.2.taken row h.tail) s.views id me.0 here own.2.tails)
+
+        same_room : room ≡ room_of setup
+        same_room = sym (tail_of at seen room staged me.0.tail is).4 ∙ fits.1
+
+        -- the position that is found, and the one after the tail's
+        found_is : get_or s.words 2 0 ≡ position (room_of setup) own.2.taken
+        found_is = sym (get_or-drop 1 s.words 1 0) ∙ own.2.laid.outs
+
+        next_is : position room (at + 1) ≡ position (room_of setup) (own.2.put + 1)
+        next_is = step_on at room t.at (tail_of at seen room staged me.0.tail is).2
+            ∙ ap (λ (k : ℕ). position k (t.at + 1)) same_room ∙ ap (λ (k : ℕ). position (room_of setup) (k + 1)) fits.0
+
+        by_found : (get_or s.words 2 0 ≡ position room (at + 1)) ⊎ (get_or s.words 2 0 ≢ position room (at + 1))
+            → (w : Holding) × (a : Act (Unit {0})) × Valid s.homes me.1 a × KeepsAccount setup (stepped s 2 (get_or s.words 2 0) id me.1 w a)
+            × (Glances call x (position room (at + 1)) room me.0 (get_or s.words 2 0) w × (carried_after me.1 a ≡ me.1))
+        by_found (inl same) =
+            let v = me.0 in
+            let w = told call (effect.Not x) n v in
+            let b = r.1 in
+            let log' = b.log ++ note_at call (effect.Not x) n ∷ [] in
+            let count = own.2.laid.count in
+            let within = own.2.laid.within in
+            let full = full_ring (room_of setup) own.2.put own.2.taken (omega arith) (omega arith) (sym found_is ∙ same ∙ next_is) in
+            let nodes = nodes_at_tail _ _ row b.log s.views own.2 id v w row log' own.2.put here (ap holders has) (ap holders has) refl refl (omega arith)
+            (λ _. refl) (subst (FitsTail (room_of setup) own.2.put own.2.taken row) (sym has) fits)
+            (laid_full _ _ row b.log own.2.put own.2.taken own.2.laid x call n full) in (
+              w,
+              keeps,
+              tt,
+              kept_seen setup s.words 2 (set s.views id w) r.0.0 (account_same setup n s.views id v w r.0.1 here refl refl)
+                  (booked n s.words log' (set s.views id w) (logged_more n b.log s.views id v w call (effect.Not x) b.logged here own.2.unknown refl refl refl
+                  (contains_some v.drawn call drew) (drawn_below setup n s.views id v call r.0.1 here drew)) (inl (own.0, inr (own.1, nodes)))),
+              (inl (same, n, refl), refl),
+            )
+        by_found (inr other) =
+            let v = me.0 in
+            let w = record v { tail = seen_tail own.2.taken v.tail } in
+            let b = r.1 in
+            let now : w.tail ≡ Some (tail_at t.at own.2.taken t.room t.staged) = ap (seen_tail own.2.taken) has in
+            let count = own.2.laid.count in
+            let within = own.2.laid.within in
+            let unstaged_here = (tail_of at seen room staged me.0.tail is).5 ∙ unstaged in
+            let nodes = nodes_at_tail _ _ row b.log s.views own.2 id v w row b.log own.2.put here (ap holders has) (ap holders now) refl refl (omega arith)
+            (λ _. refl) (subst (FitsTail (room_of setup) own.2.put own.2.taken row) (sym now) (
+              fits.0,
+              fits.1,
+              omega arith,
+              omega arith,
+              subst (FitsStaged row (tail_at t.at own.2.taken t.room t.staged)) (sym unstaged_here) tt,
+            )) own.2.laid in (
+              w,
+              keeps,
+              tt,
+              kept_seen setup s.words 2 (set s.views id w) r.0.0 (account_same setup n s.views id v w r.0.1 here refl refl)
+                  (booked n s.words b.log (set s.views id w) (logged_same n n b.log s.views id v w (omega arith) b.logged here refl refl (λ e. e))
+                  (inl (own.0, inr (own.1, nodes)))),
+              (inr (other, own.2.taken, found_is ∙ ap (λ (k : ℕ). position k own.2.taken) (sym same_room), refl), refl),
+            )
+
+    -- a value is written into the next cell
+    pub writes : (x : ℕ) → position room (at + 1) ≢ seen
+        → Allows (KeepsAccount setup) slots id me (at + 3) (λ _. x) (λ _ after. after ≡ (stages x me.0, me.1))
+    writes x free s r _ here _ =
+        let v = me.0 in
+        let w = stages x v in
+        let n : ℕ = get_or s.words 0 0 in
+        let row = drop 1 s.words in
+        let b = r.1 in
+        let known = tail_of at seen room staged v.tail is in
+        let o = ends_beside setup _ _ s.views b.nodes id v here (let one = ap holders has in omega arith) in
+        let fits : FitsTail (room_of setup) o.2.put o.2.taken row (Some t) = subst (FitsTail (room_of setup) o.2.put o.2.taken row) has
+        (at_place (λ h. FitsTail (room_of setup) o.2.put o.2.taken row h.tail) s.views id v here o.2.tails) in
+        let same_room : room ≡ room_of setup = sym known.4 ∙ fits.1 in
+        let at_is : at ≡ position (room_of setup) o.2.put =
+        known.2 ∙ ap (λ (k : ℕ). position k t.at) same_room ∙ ap (position (room_of setup)) fits.0 in
+        let seen_is : seen ≡ position (room_of setup) t.seen = known.3 ∙ ap (λ (k : ℕ). position k t.seen) same_room in
+        let next_is : position room (at + 1) ≡ position (room_of setup) (o.2.put + 1) =
+        step_on at room t.at known.2 ∙ ap (λ (k : ℕ). position k (t.at + 1)) same_room ∙ ap (λ (k : ℕ). position (room_of setup) (k + 1)) fits.0 in
+        let room_left : o.2.put < t.seen + room_of setup = free_ring (room_of setup) o.2.put t.seen fits.3 (λ e. free (next_is ∙ sym e ∙ sym seen_is)) in
+        let seen_low = fits.2 in
+        let j = cell (room_of setup) o.2.put in
+        let more = set row j x in
+        let now : w.tail ≡ Some (tail_at t.at t.seen t.room (Some x)) = ap (staged_tail x) has in
+        let laid = o.2.laid in
+        let wide = laid.wide in
+        let within = position_within (room_of setup) o.2.put in
+        let count = laid.count in
+        let nodes = nodes_at_tail _ _ row b.log s.views o.2 id v w more b.log o.2.put here (ap holders has) (ap holders now) refl refl (omega arith)
+        (λ some_left. get_or-set_other row j (cell (room_of setup) o.2.taken) x 0
+        (λ e. absurd (let same = same_position (room_of setup) o.2.taken o.2.put (omega arith) (omega arith) (omega arith) in omega arith)))
+        (subst (FitsTail (room_of setup) o.2.put o.2.taken more) (sym now) (
+          fits.0,
+          fits.1,
+          fits.2,
+          fits.3,
+          (
+            (let r = fits.1 in let p = fits.0 in omega arith),
+            ap (λ (k : ℕ). get_or more (position k t.at + 2) 0) fits.1 ∙ ap (λ (k : ℕ). get_or more (cell (room_of setup) k) 0) fits.0
+                ∙ get_or-set_same row j x 0 (omega arith),
+          ),
+        ))
+        (laid_staged _ _ row b.log o.2.put o.2.taken laid x (omega arith)) in (
+          w,
+          keeps,
+          tt,
+          kept_else setup s.words (at + 3) j x b.log (set s.views id w) (omega arith) r.0.0 (account_same setup n s.views id v w r.0.1 here refl refl)
+              (logged_same n n b.log s.views id v w (omega arith) b.logged here refl refl (λ e. e)) (inl (o.0, inr (o.1, nodes))),
+          refl,
+        )
+
+    -- the staged value is enqueued
+    pub publishes : (x y : ℕ) → staged ≡ Some x → y ≡ position room (at + 1) → Contains me.0.drawn call
+        → Allows (KeepsAccount setup) slots id me 1 (λ _. y) (λ _ after. Publishes call x me.0 after.0 × (after.1 ≡ me.1))
+    publishes x y is_staged y_is drew s r _ here _ =
+        let v = me.0 in
+        let n : ℕ = get_or s.words 0 0 in
+        let w = record (told call (effect.Enq x) n v) { tail = pushed_tail v.tail } in
+        let row = drop 1 s.words in
+        let b = r.1 in
+        let known = tail_of at seen room staged v.tail is in
+        let o = ends_beside setup _ _ s.views b.nodes id v here (let one = ap holders has in omega arith) in
+        let log' = b.log ++ note_at call (effect.Enq x) n ∷ [] in
+        let fits : FitsTail (room_of setup) o.2.put o.2.taken row (Some t) = subst (FitsTail (room_of setup) o.2.put o.2.taken row) has
+        (at_place (λ h. FitsTail (room_of setup) o.2.put o.2.taken row h.tail) s.views id v here o.2.tails) in
+        let same_room : room ≡ room_of setup = sym known.4 ∙ fits.1 in
+        let next_is : y ≡ position (room_of setup) (o.2.put + 1) = y_is ∙ step_on at room t.at known.2
+        ∙ ap (λ (k : ℕ). position k (t.at + 1)) same_room ∙ ap (λ (k : ℕ). position (room_of setup) (k + 1)) fits.0 in
+        let in_cell : FitsStaged row t (Some x) = subst (FitsStaged row t) (known.5 ∙ is_staged) fits.4 in
+        let room_left : o.2.put < t.seen + room_of setup = (let a = in_cell.0 in let p = fits.0 in let q = fits.1 in omega arith) in
+        let seen_low = fits.2 in
+        let held : get_or row (cell (room_of setup) o.2.put) 0 ≡ x = ap (λ (k : ℕ). get_or row (cell (room_of setup) k) 0) (sym fits.0)
+        ∙ ap (λ (k : ℕ). get_or row (cell k t.at) 0) (sym fits.1) ∙ in_cell.1 in
+        let now : w.tail ≡ Some (tail_at (t.at + 1) t.seen t.room None) = ap pushed_tail has in
+        let laid = o.2.laid in
+        let more = set row 0 (position (room_of setup) (o.2.put + 1)) in
+        let nodes = nodes_at_tail _ _ row b.log s.views o.2 id v w more log' (o.2.put + 1) here (ap holders has) (ap holders now) refl refl (omega arith)
+        (λ some_left. get_or-set_other row 0 (cell (room_of setup) o.2.taken) (position (room_of setup) (o.2.put + 1)) 0 (λ e. absurd (omega arith)))
+        (subst (FitsTail (room_of setup) (o.2.put + 1) o.2.taken more) (sym now) (ap (λ (k : ℕ). k + 1) fits.0, fits.1, fits.2, omega arith, tt))
+        (laid_pushed _ _ row b.log o.2.put o.2.taken laid x call n (omega arith) held) in (
+          w,
+          keeps,
+          tt,
+          kept_else setup s.words 1 0 y log' (set s.views id w) refl r.0.0 (account_same setup n s.views id v w r.0.1 here refl refl)
+              (logged_more n b.log s.views id v w call (effect.Enq x) b.logged here o.2.unknown refl refl refl
+              (contains_some v.drawn call drew) (drawn_below setup n s.views id v call r.0.1 here drew))
+              (subst (λ (k : ℕ). AreBeside setup (set row 0 k) log' (set s.views id w)) (sym next_is) (inl (o.0, inr (o.1, nodes)))),
+          ((n, refl), refl),
+        )
 
   -- ---- at the head
 
-  -- all enqueued values were dequeued, or the next node holds a value
-  pub finds : (slots id : ℕ) (me : Me (Unit {0}) Holding) (call at room : ℕ) (initial : List ℕ) → me.0.head ≡ Some (head_at at room initial false)
-      → Contains me.0.drawn call
-      → Allows (KeepsAccount setup) slots id me 1 (λ n. n) (λ found after. FindsOne call at room initial me.0 found after.0 × (after.1 ≡ me.1))
-  finds slots id me call at room initial has drew s r _ here _ = by_count (cases_eq (get_or s.words 1 0) at)
-    where
-      row : List ℕ
-      row = drop 1 s.words
+  module _ (slots id : ℕ) (me : Me (Unit {0}) Holding) (call at room : ℕ) (next : Next) (is : IsHeadAt at room next me.0.head) where
+    abbrev h : HeadRight
+    h = (head_of at room next me.0.head is).0
 
-      n : ℕ
-      n = get_or s.words 0 0
+    abbrev held : me.0.head ≡ Some h
+    held = (head_of at room next me.0.head is).1
 
-      first : get_or row 0 0 ≡ get_or s.words 1 0
-      first = get_or-drop 1 s.words 0 0
+    -- the head end looks where the tail is
+    pub finds : next ≡ Unknown → Contains me.0.drawn call
+        → Allows (KeepsAccount setup) slots id me 1 (λ n. n) (λ found after. FindsOne call at me.0 found after.0 × (after.1 ≡ me.1))
+    finds unknown drew s r _ here _ = by_found (cases_eq (get_or s.words 1 0) at)
+      where
+        row : List ℕ
+        row = drop 1 s.words
 
-      own : (setup.is_shared ≡ false) × AreNodes (initial_of setup) row r.1.log s.views
-      own = ends_beside setup _ _ s.views r.1.nodes id me.0 here (let one = ap holders has in omega arith)
+        n : ℕ
+        n = get_or s.words 0 0
 
-      fits : FitsHead own.1.at (initial_of setup) row (Some (head_at at room initial false))
-      fits = subst (FitsHead own.1.at (initial_of setup) row) has
-          (at_place (λ h. FitsHead own.1.at (initial_of setup) row h.head) s.views id me.0 here own.1.heads)
+        own : (setup.is_shared ≡ false) × (setup.has_ring ≡ true) × AreNodes (initial_of setup) (room_of setup) row r.1.log s.views
+        own = ends_beside setup _ _ s.views r.1.nodes id me.0 here (let one = ap holders held in omega arith)
 
-      unknown : sum_by knowers_of s.views ≡ 0
-      unknown = nodes_unknown_at_head _ row r.1.log s.views own.1 id me.0 here (ap holders has)
+        fits : FitsHead (room_of setup) own.2.put own.2.taken row (Some h)
+        fits = subst (FitsHead (room_of setup) own.2.put own.2.taken row) held
+            (at_place (λ k. FitsHead (room_of setup) own.2.put own.2.taken row k.head) s.views id me.0 here own.2.heads)
 
-      by_count : (get_or s.words 1 0 ≡ at) ⊎ (get_or s.words 1 0 ≢ at)
-          → (w : Holding) × (a : Act (Unit {0})) × Valid s.homes me.1 a × KeepsAccount setup (stepped s 1 (get_or s.words 1 0) id me.1 w a)
-          × (FindsOne call at room initial me.0 (get_or s.words 1 0) w × (carried_after me.1 a ≡ me.1))
-      by_count (inl none) =
-          let v = me.0 in
-          let w = told call effect.Empty n v in
-          let b = r.1 in
-          let log' = b.log ++ note_at call effect.Empty n ∷ [] in
-          let nodes = nodes_at_head _ row b.log s.views own.1 id v w own.1.at log' here (ap holders has) (ap holders has) refl refl
-          (at_place (λ h. FitsHead own.1.at (initial_of setup) row h.head) s.views id v here own.1.heads)
-          (λ laid. laid_empty _ row b.log own.1.at laid call n (first ∙ none ∙ fits.0)) in (
-            w,
-            keeps,
-            tt,
-            kept_seen setup s.words 1 (set s.views id w) r.0.0 (account_same setup n s.views id v w r.0.1 here refl refl)
-                (booked n s.words log' (set s.views id w) (logged_more n r.1.log s.views id v w call effect.Empty b.logged here unknown refl refl refl
-                (contains_some v.drawn call drew) (drawn_below setup n s.views id v call r.0.1 here drew)) (inl (own.0, nodes))),
-            (inl (none, n, refl), refl),
-          )
-      by_count (inr some_left) =
-          let v = me.0 in
-          let w = record v { head = Some (head_at at room initial true) } in
-          let b = r.1 in
-          let laid = own.1.laid unknown in
-          let count = laid.count in
-          let within = laid.within in
-          let here_at = fits.0 in
-          let wide = fits.2 in
-          let below : at < get_or row 0 0 = more_left (get_or row 0 0) at (laid.queue) (λ e. some_left (sym first ∙ e))
-          (laid.count ∙ ap (λ (k : ℕ). k + length laid.queue) (sym fits.0)) in
-          let nodes = nodes_at_head _ row b.log s.views own.1 id v w own.1.at b.log here (ap holders has) refl refl refl
-          (fits.0, fits.1, fits.2, λ _. below) (λ l. l) in (
-            w,
-            keeps,
-            tt,
-            kept_seen setup s.words 1 (set s.views id w) r.0.0 (account_same setup n s.views id v w r.0.1 here refl refl)
-                (booked n s.words b.log (set s.views id w) (logged_same n n b.log s.views id v w (omega arith) b.logged here refl refl (λ e. e)) (inl (own.0, nodes))),
-            (inr (some_left, omega arith, refl), refl),
-          )
+        found_is : get_or s.words 1 0 ≡ position (room_of setup) own.2.put
+        found_is = sym (get_or-drop 1 s.words 0 0) ∙ own.2.laid.ins
 
-  -- the first value is dequeued
-  pub reads : (slots id : ℕ) (me : Me (Unit {0}) Holding) (call at room : ℕ) (initial : List ℕ) → me.0.head ≡ Some (head_at at room initial true)
-      → Contains me.0.drawn call
-      → Allows (KeepsAccount setup) slots id me (at + 2) (λ n. n) (λ found after. Reads call at room initial me.0 found after.0 × (after.1 ≡ me.1))
-  reads slots id me call at room initial has drew s r _ here _ =
-      let v = me.0 in
-      let n : ℕ = get_or s.words 0 0 in
-      let x : ℕ = get_or s.words (at + 2) 0 in
-      let w = record (told call (effect.Deq x) n v) { head = Some (head_at (at + 1) room initial false) } in
-      let row = drop 1 s.words in
-      let b = r.1 in
-      let o = ends_beside setup _ _ s.views b.nodes id v here (let one = ap holders has in omega arith) in
-      let fits : FitsHead o.1.at (initial_of setup) row (Some (head_at at room initial true)) =
-      subst (FitsHead o.1.at (initial_of setup) row) has (at_place (λ h. FitsHead o.1.at (initial_of setup) row h.head) s.views id v here o.1.heads) in
-      let place : 1 + (o.1.at + 1) ≡ at + 2 = (let e = fits.0 in omega arith) in
-      let is : get_or row (o.1.at + 1) 0 ≡ x = get_or-drop 1 s.words (o.1.at + 1) 0 ∙ ap (λ (k : ℕ). get_or s.words k 0) place in
-      let log' = b.log ++ note_at call (effect.Deq x) n ∷ [] in
-      let below = fits.3 refl in
-      let here_at = fits.0 in
-      let nodes = nodes_at_head _ row b.log s.views o.1 id v w (o.1.at + 1) log' here (ap holders has) refl refl refl
-      (ap (λ (k : ℕ). k + 1) fits.0, fits.1, fits.2, λ e. absurd (false≢true e))
-      (λ laid. subst (λ (y : ℕ). IsLaid (initial_of setup) row (b.log ++ note_at call (effect.Deq y) n ∷ []) (o.1.at + 1)) is
-      (laid_taken _ row b.log o.1.at laid call n (omega arith))) in (
-        w,
-        keeps,
-        tt,
-        kept_seen setup s.words (at + 2) (set s.views id w) r.0.0 (account_same setup n s.views id v w r.0.1 here refl refl)
-            (booked n s.words log' (set s.views id w) (logged_more n r.1.log s.views id v w call (effect.Deq x) b.logged here
-            (nodes_unknown_at_head _ row b.log s.views o.1 id v here (ap holders has)) refl refl refl
-            (contains_some v.drawn call drew) (drawn_below setup n s.views id v call r.0.1 here drew)) (inl (o.0, nodes))),
-        ((n, refl), refl),
-      )
+        at_is : at ≡ position (room_of setup) own.2.taken
+        at_is = (head_of at room next me.0.head is).2 ∙ ap (λ (k : ℕ). position k h.at) (sym (head_of at room next me.0.head is).3 ∙ fits.1)
+            ∙ ap (position (room_of setup)) fits.0
+
+        by_found : (get_or s.words 1 0 ≡ at) ⊎ (get_or s.words 1 0 ≢ at)
+            → (w : Holding) × (a : Act (Unit {0})) × Valid s.homes me.1 a × KeepsAccount setup (stepped s 1 (get_or s.words 1 0) id me.1 w a)
+            × (FindsOne call at me.0 (get_or s.words 1 0) w × (carried_after me.1 a ≡ me.1))
+        by_found (inl same) =
+            let v = me.0 in
+            let w = told call effect.Empty n v in
+            let b = r.1 in
+            let log' = b.log ++ note_at call effect.Empty n ∷ [] in
+            let count = own.2.laid.count in
+            let within = own.2.laid.within in
+            let none = same_position (room_of setup) own.2.taken own.2.put (omega arith) (omega arith) (sym at_is ∙ sym same ∙ found_is) in
+            let nodes = nodes_at_head _ _ row b.log s.views own.2 id v w row log' own.2.taken here (ap holders held) (ap holders held) refl refl (omega arith)
+            (λ _. refl) (subst (FitsHead (room_of setup) own.2.put own.2.taken row) (sym held) fits)
+            (laid_empty _ _ row b.log own.2.put own.2.taken own.2.laid call n (sym none)) in (
+              w,
+              keeps,
+              tt,
+              kept_seen setup s.words 1 (set s.views id w) r.0.0 (account_same setup n s.views id v w r.0.1 here refl refl)
+                  (booked n s.words log' (set s.views id w) (logged_more n b.log s.views id v w call effect.Empty b.logged here own.2.unknown refl refl refl
+                  (contains_some v.drawn call drew) (drawn_below setup n s.views id v call r.0.1 here drew)) (inl (own.0, inr (own.1, nodes)))),
+              (inl (same, n, refl), refl),
+            )
+        by_found (inr other) =
+            let v = me.0 in
+            let w = record v { head = known_head There v.head } in
+            let b = r.1 in
+            let now : w.head ≡ Some (head_at h.at h.room There) = ap (known_head There) held in
+            let count = own.2.laid.count in
+            let below : own.2.taken < own.2.put = some_left own.2.put own.2.taken (length own.2.laid.queue) count
+            (λ e. other (found_is ∙ ap (position (room_of setup)) e ∙ sym at_is)) in
+            let nodes = nodes_at_head _ _ row b.log s.views own.2 id v w row b.log own.2.taken here (ap holders held) (ap holders now) refl refl (omega arith)
+            (λ _. refl) (subst (FitsHead (room_of setup) own.2.put own.2.taken row) (sym now) (fits.0, fits.1, below)) own.2.laid in (
+              w,
+              keeps,
+              tt,
+              kept_seen setup s.words 1 (set s.views id w) r.0.0 (account_same setup n s.views id v w r.0.1 here refl refl)
+                  (booked n s.words b.log (set s.views id w) (logged_same n n b.log s.views id v w (omega arith) b.logged here refl refl (λ e. e))
+                  (inl (own.0, inr (own.1, nodes)))),
+              (inr (other, refl), refl),
+            )
+
+    -- the value of the next cell is read
+    pub reads_cell : next ≡ There → Allows (KeepsAccount setup) slots id me (at + 3) (λ n. n) (λ found after. after ≡ (reads found me.0, me.1))
+    reads_cell there s r _ here _ =
+        let v = me.0 in
+        let n : ℕ = get_or s.words 0 0 in
+        let x : ℕ = get_or s.words (at + 3) 0 in
+        let w = reads x v in
+        let row = drop 1 s.words in
+        let b = r.1 in
+        let known = head_of at room next v.head is in
+        let o = ends_beside setup _ _ s.views b.nodes id v here (let one = ap holders held in omega arith) in
+        let fits : FitsHead (room_of setup) o.2.put o.2.taken row (Some h) = subst (FitsHead (room_of setup) o.2.put o.2.taken row) held
+        (at_place (λ k. FitsHead (room_of setup) o.2.put o.2.taken row k.head) s.views id v here o.2.heads) in
+        let at_is : at ≡ position (room_of setup) o.2.taken =
+        known.2 ∙ ap (λ (k : ℕ). position k h.at) (sym known.3 ∙ fits.1) ∙ ap (position (room_of setup)) fits.0 in
+        let some_here : FitsNext (room_of setup) o.2.put o.2.taken row There =
+        subst (FitsNext (room_of setup) o.2.put o.2.taken row) (known.4 ∙ there) fits.2 in
+        let place : 1 + cell (room_of setup) o.2.taken ≡ at + 3 = omega arith in
+        let holds : get_or row (cell (room_of setup) o.2.taken) 0 ≡ x =
+        get_or-drop 1 s.words (cell (room_of setup) o.2.taken) 0 ∙ ap (λ (k : ℕ). get_or s.words k 0) place in
+        let now : w.head ≡ Some (head_at h.at h.room (Holds x)) = ap (known_head (Holds x)) held in
+        let nodes = nodes_at_head _ _ row b.log s.views o.2 id v w row b.log o.2.taken here (ap holders held) (ap holders now) refl refl (omega arith)
+        (λ _. refl) (subst (FitsHead (room_of setup) o.2.put o.2.taken row) (sym now) (fits.0, fits.1, (some_here, holds))) o.2.laid in (
+          w,
+          keeps,
+          tt,
+          kept_seen setup s.words (at + 3) (set s.views id w) r.0.0 (account_same setup n s.views id v w r.0.1 here refl refl)
+              (booked n s.words b.log (set s.views id w) (logged_same n n b.log s.views id v w (omega arith) b.logged here refl refl (λ e. e))
+              (inl (o.0, inr (o.1, nodes)))),
+          refl,
+        )
+
+    -- the value that was read is dequeued
+    pub frees : (x y : ℕ) → next ≡ Holds x → y ≡ position room (at + 1) → Contains me.0.drawn call
+        → Allows (KeepsAccount setup) slots id me 2 (λ _. y) (λ _ after. Frees call x me.0 after.0 × (after.1 ≡ me.1))
+    frees x y holds y_is drew s r _ here _ =
+        let v = me.0 in
+        let n : ℕ = get_or s.words 0 0 in
+        let w = record (told call (effect.Deq x) n v) { head = freed_head v.head } in
+        let row = drop 1 s.words in
+        let b = r.1 in
+        let known = head_of at room next v.head is in
+        let o = ends_beside setup _ _ s.views b.nodes id v here (let one = ap holders held in omega arith) in
+        let log' = b.log ++ note_at call (effect.Deq x) n ∷ [] in
+        let fits : FitsHead (room_of setup) o.2.put o.2.taken row (Some h) = subst (FitsHead (room_of setup) o.2.put o.2.taken row) held
+        (at_place (λ k. FitsHead (room_of setup) o.2.put o.2.taken row k.head) s.views id v here o.2.heads) in
+        let same_room : room ≡ room_of setup = sym known.3 ∙ fits.1 in
+        let next_is : y ≡ position (room_of setup) (o.2.taken + 1) = y_is ∙ step_on at room h.at known.2
+        ∙ ap (λ (k : ℕ). position k (h.at + 1)) same_room ∙ ap (λ (k : ℕ). position (room_of setup) (k + 1)) fits.0 in
+        let read : FitsNext (room_of setup) o.2.put o.2.taken row (Holds x) =
+        subst (FitsNext (room_of setup) o.2.put o.2.taken row) (known.4 ∙ holds) fits.2 in
+        let now : w.head ≡ Some (head_at (h.at + 1) h.room Unknown) = ap freed_head held in
+        let more = set row 1 (position (room_of setup) (o.2.taken + 1)) in
+        let nodes = nodes_at_head _ _ row b.log s.views o.2 id v w more log' (o.2.taken + 1) here (ap holders held) (ap holders now) refl refl (omega arith)
+        (λ k. get_or-set_other row 1 (cell (room_of setup) k) (position (room_of setup) (o.2.taken + 1)) 0 (λ e. absurd (omega arith)))
+        (subst (FitsHead (room_of setup) o.2.put (o.2.taken + 1) more) (sym now) (ap (λ (k : ℕ). k + 1) fits.0, fits.1, tt))
+        (laid_taken _ _ row b.log o.2.put o.2.taken o.2.laid x call n read.0 read.1) in (
+          w,
+          keeps,
+          tt,
+          kept_else setup s.words 2 1 y log' (set s.views id w) refl r.0.0 (account_same setup n s.views id v w r.0.1 here refl refl)
+              (logged_more n b.log s.views id v w call (effect.Deq x) b.logged here o.2.unknown refl refl refl
+              (contains_some v.drawn call drew) (drawn_below setup n s.views id v call r.0.1 here drew))
+              (subst (λ (k : ℕ). AreBeside setup (set row 1 k) log' (set s.views id w)) (sym next_is) (inl (o.0, inr (o.1, nodes)))),
+          ((n, refl), refl),
+        )
 
   -- ---- the end
 
-  -- a pass with the whole budget and the head end has noted the whole log, which a queue accepts
-  pub settles_nodes : (id : ℕ) (v : Holding) (words : List ℕ) (slots : List (Unit {0})) (next at room : ℕ) (initial : List ℕ) → whole_of v ≡ setup.budget
-      → v.head ≡ Some (head_at at room initial false) → Final (Seen (KeepsAccount setup) id v) words slots → get_elem? words 0 ≡ some next
-      → (log : List Note) × IsPermutation v.noted log × LooksRise 0 log next × IsSome (queue_after initial log)
-  settles_nodes id v words slots next at room initial whole has f found =
+  -- a pass with the whole budget has noted the whole log, which a bounded queue accepts
+  pub settles_ring : (id : ℕ) (v : Holding) (words : List ℕ) (slots : List (Unit {0})) (next : ℕ) → setup.has_ring ≡ true → setup.is_shared ≡ false
+      → whole_of v ≡ setup.budget → Final (Seen (KeepsAccount setup) id v) words slots → get_elem? words 0 ≡ some next
+      → (log : List Note) × IsPermutation v.noted log × LooksRise 0 log next × IsSome (queue_after (initial_of setup) log)
+      × IsSome (bounded_after (room_of setup) (initial_of setup) log)
+  settles_ring id v words slots next ring unshared whole f found =
       let s = f.0 in
       let here = f.1.1 in
       let n : ℕ = get_or s.words 0 0 in
-      let row = drop 1 s.words in
       let b = f.1.0.1 in
-      let o = ends_beside setup _ _ s.views b.nodes id v here (let one = ap holders has in omega arith) in
-      let last : n ≡ next = ap (λ (l : List ℕ). get_or l 0 0) f.2 ∙ first_word words next found in
-      let fits : FitsHead o.1.at (initial_of setup) row (Some (head_at at room initial false)) =
-      subst (FitsHead o.1.at (initial_of setup) row) has (at_place (λ h. FitsHead o.1.at (initial_of setup) row h.head) s.views id v here o.1.heads) in
-      let laid = o.1.laid (nodes_unknown_at_head _ row b.log s.views o.1 id v here (ap holders has)) in (
+      let o = ring_beside setup _ _ s.views b.nodes ring unshared in
+      let last : n ≡ next = ap (λ (l : List ℕ). get_or l 0 0) f.2 ∙ first_word words next found in (
         b.log,
         logged_all n b.log s.views id v b.logged here (others_idle setup n s.views id v f.1.0.0.1 here whole),
         subst (LooksRise 0 b.log) last b.logged.rise,
-        subst (λ (values : List ℕ). IsSome (queue_after values b.log)) (sym fits.1) (subst IsSome (sym laid.legal) refl),
+        subst IsSome (sym (bounded_is_queue (room_of setup) (initial_of setup) b.log o.laid.queue o.laid.legal)) refl,
+        subst IsSome (sym o.laid.legal) refl,
       )
 
   -- ---- the beginning
@@ -327,60 +579,68 @@ module _ (setup : Setup) where
       few_know None = omega arith
       few_know (Some log) = omega arith
 
-  -- a table without nodes, whose first pass knows the log
-  pub opens : setup.has_nodes ≡ false → setup.is_shared ≡ false → setup.budget ≤ TICKET_LIMIT → KeepsAccount setup (opening (0 ∷ []) [] (first_of setup))
+  -- a table without a ring or shared nodes, whose first pass knows the log
+  pub opens : setup.has_ring ≡ false → setup.is_shared ≡ false → setup.budget ≤ TICKET_LIMIT → KeepsAccount setup (opening (0 ∷ []) [] (first_of setup))
   opens none unshared limit = subst (λ (w : Holding). KeepsAccount setup (opening (0 ∷ []) [] w)) (sym (first_plain setup none unshared))
       (let v = with_known setup in (
         (omega arith, opens_account v refl refl limit),
-        booked 0 (0 ∷ []) [] (v ∷ []) (opens_log v refl refl) (inl (
-          unshared,
-          record {
-            at = 0;
-            one_tail = omega (arith, sum_by-cons tail_rights v []);
-            one_head = omega (arith, sum_by-cons head_rights v []);
-            tails = All-cons (λ (h : Holding). FitsTail [] h.tail) v [] tt (All-nil (λ (h : Holding). FitsTail [] h.tail));
-            heads = All-cons (λ (h : Holding). FitsHead 0 (initial_of setup) [] h.head) v [] tt (All-nil (λ (h : Holding). FitsHead 0 (initial_of setup) [] h.head));
-            laid = λ unknown. absurd (omega (arith, sum_by-cons knowers_of v []));
-          },
-        )),
+        booked 0 (0 ∷ []) [] (v ∷ []) (opens_log v refl refl) (inl (unshared, inl (none, omega (arith, sum_by-cons ends_of v [])))),
       ))
 
-  -- a table with nodes, whose first pass has both ends
-  pub opens_nodes : (words : List ℕ) → setup.has_nodes ≡ true → setup.is_shared ≡ false → setup.words.value.items ≡ words → get_or words 0 0 ≡ 0
-      → get_or words 1 0 ≡ setup.filled → setup.filled + 2 ≤ length words → setup.budget ≤ TICKET_LIMIT → KeepsAccount setup (opening words [] (first_of setup))
-  opens_nodes words some_nodes unshared are zero_first filled fits limit =
-      subst (λ (b : Bool). KeepsAccount setup (opening words []
-      (if b then with_both setup else (if setup.is_shared then holding setup.budget [] [] else with_known setup)))) (sym some_nodes)
-      (let v = with_both setup in
-      let row = drop 1 words in
-      let initial = initial_of setup in
-      let first : get_or row 0 0 ≡ setup.filled = get_or-drop 1 words 0 0 ∙ filled in
-      let long = length-drop 1 words in
-      let all_long = ap length are in
-      let held : initial ≡ take setup.filled (drop 2 words) = ap (λ (l : List ℕ). take setup.filled (drop 2 l)) are in
-      let rest = length-drop 2 words in
-      let count : length initial ≡ setup.filled = ap length held ∙ length-take-le setup.filled (drop 2 words) (omega arith) in (
-        (omega arith, subst (λ (n : ℕ). IsAccount setup.budget n (v ∷ [])) (sym zero_first) (opens_account v refl refl limit)),
-        subst (λ (n : ℕ). AreBooked setup n words (v ∷ [])) (sym zero_first) (
-            booked 0 words [] (v ∷ []) (opens_log v refl tt) (inl (
-              unshared,
-              record {
-                at = 0;
-                one_tail = omega (arith, sum_by-cons tail_rights v []);
-                one_head = omega (arith, sum_by-cons head_rights v []);
-                tails = All-cons (λ (h : Holding). FitsTail row h.tail) v [] (first, omega arith, tt) (All-nil (λ (h : Holding). FitsTail row h.tail));
-                heads = All-cons (λ (h : Holding). FitsHead 0 initial row h.head) v [] (refl, refl, omega arith, λ e. absurd (false≢true e))
-                    (All-nil (λ (h : Holding). FitsHead 0 initial row h.head));
-                laid = λ _. record {
-                  queue = initial;
-                  legal = refl;
-                  count = omega arith;
-                  within = omega arith;
-                  lies = λ i h.
-                      let place : 1 + (0 + i + 1) ≡ 2 + i = omega arith in
-                      get_or-drop 1 words (0 + i + 1) 0 ∙ ap (λ (k : ℕ). get_or words k 0) place ∙ sym (get_or-drop 2 words i 0)
-                      ∙ sym (get_or-take setup.filled (drop 2 words) i 0 (omega arith)) ∙ ap (λ (l : List ℕ). get_or l i 0) (sym held);
-                };
-              },
-            ))),
+  -- a table with a ring, whose first pass has both ends
+  pub opens_ring : (words initial : List ℕ) (room : ℕ) → setup.has_ring ≡ true → setup.is_shared ≡ false → setup.filled ≡ length initial
+      → initial_of setup ≡ initial → room_of setup ≡ room → words ≡ row_words initial room → length initial ≤ room → setup.budget ≤ TICKET_LIMIT
+      → KeepsAccount setup (opening words [] (first_of setup))
+  opens_ring words initial room ring unshared filled held has_room are fits limit =
+      subst (λ (l : List ℕ). KeepsAccount setup (opening l [] (first_of setup))) (sym are)
+      (subst (λ (b : Bool). KeepsAccount setup (opening (row_words initial room) []
+      (if b then with_both setup else (if setup.is_shared then holding setup.budget [] [] else with_known setup)))) (sym ring) (
+        (omega arith, opens_account v refl refl limit),
+        booked 0 (row_words initial room) [] (v ∷ []) (opens_log v refl tt) (inl (
+          unshared,
+          inr (
+            ring,
+            record {
+              put = setup.filled;
+              taken = 0;
+              unknown = omega (arith, sum_by-cons knowers_of v []);
+              one_tail = omega (arith, sum_by-cons tails_of v []);
+              one_head = omega (arith, sum_by-cons heads_of v []);
+              tails = All-cons (λ (g : Holding). FitsTail (room_of setup) setup.filled 0 row g.tail) v []
+                  (refl, refl, omega arith, omega (arith, filled, has_room, fits), tt) (All-nil (λ (g : Holding). FitsTail (room_of setup) setup.filled 0 row g.tail));
+              heads = All-cons (λ (g : Holding). FitsHead (room_of setup) setup.filled 0 row g.head) v [] (refl, refl, tt)
+                  (All-nil (λ (g : Holding). FitsHead (room_of setup) setup.filled 0 row g.head));
+              laid = subst (λ (k : ℕ). IsLaid (initial_of setup) k row [] setup.filled 0) (sym has_room)
+                  (subst (λ (l : List ℕ). IsLaid l room row [] setup.filled 0) (sym held)
+                  (subst (λ (k : ℕ). IsLaid initial room row [] k 0) (sym filled) first_laid));
+            },
+          ),
+        )),
       ))
+    where
+      v : Holding
+      v = with_both setup
+
+      row : List ℕ
+      row = drop 1 (row_words initial room)
+
+      rest : List ℕ
+      rest = replicate (room + 1 - length initial) NO_VALUE
+
+      node : (j k : ℕ) → j ≡ k + 2 → get_or (length initial ∷ 0 ∷ (initial ++ rest)) j 0 ≡ get_or (initial ++ rest) k 0
+      node j k e = (let is : j ≡ suc (suc k) = omega arith in ap (λ (i : ℕ). get_or (length initial ∷ 0 ∷ (initial ++ rest)) i 0) is)
+
+      first_laid : IsLaid initial room row [] (length initial) 0
+      first_laid = record {
+        queue = initial;
+        legal = refl;
+        count = omega arith;
+        within = fits;
+        wide = (let long = length-append initial rest in let more = length-replicate (room + 1 - length initial) NO_VALUE in omega arith);
+        ins = sym (mod-eq_of_lt (omega arith));
+        outs = sym (mod-eq_of_lt (omega arith));
+        lies = λ i h.
+            let first : position room (0 + i) ≡ 0 + i = mod-eq_of_lt (omega arith) in
+            let place : cell room (0 + i) ≡ i + 2 = omega arith in
+            node (cell room (0 + i)) i place ∙ get_or_append_left initial rest 0 i h;
+      }

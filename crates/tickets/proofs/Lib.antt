@@ -11,6 +11,7 @@ pub mod Rising
 mod Steps
 mod Apart
 mod Logged
+mod Turns
 mod Rows
 mod Beside
 mod Walks

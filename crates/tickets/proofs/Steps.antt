@@ -19,7 +19,7 @@ use Rattle.tickets.specs.declared.account.Holding.{Holding}
 use Rattle.tickets.specs.Account.{whole_of, IsAccount}
 use Rattle.tickets.specs.Inner.Account.{first_of, holding, logging, known_log, knows_log, without_log, with_log}
 use Rattle.tickets.specs.Inner.Account.{AreBooked, AreBeside, either_log, with_both, with_known}
-use Rattle.tickets.specs.Inner.Nodes.{holders}
+use Rattle.tickets.specs.Inner.Ring.{holders}
 use Rattle.tickets.specs.declared.account.Setup.{Setup}
 use Rattle.tickets.proofs.Beside.{beside_same, beside_split, beside_join, beside_known}
 use Rattle.tickets.specs.Inner.Account.{noting, KeepsAccount, DrawsNext, NotesAt, LooksAtShare, merged, put_together}
@@ -247,7 +247,7 @@ module _ (setup : Setup) where
           log = r.1.log;
           logged = logged_push (get_or s.words 0 0) r.1.log (set s.views id w) new
               (logged_same (get_or s.words 0 0) (get_or s.words 0 0) r.1.log s.views id v w (omega arith) r.1.logged at refl refl (λ e. e)) refl refl;
-          nodes = beside_split setup _ _ s.views r.1.nodes id v w new at (omega arith) (omega arith) (omega arith) (λ fits. (fits, tt)) (λ _ fits. (fits, tt)) refl refl;
+          nodes = beside_split setup _ _ s.views r.1.nodes id v w new at (omega arith) (omega arith) (omega arith) (λ _ _ _ fits. (fits, tt)) (λ _ _ _ fits. (fits, tt)) refl refl;
         },
       )
 
@@ -304,7 +304,7 @@ module _ (setup : Setup) where
               let c' = ap holders no_end'.0 in
               let d' = ap holders no_end'.1 in
               beside_join setup _ _ views r.1.nodes id other v w m spent at there here (omega arith) (omega arith) (omega arith)
-              (λ _ _. (tt, tt)) (λ _ _ _. (tt, tt)) (λ _. tt) refl;
+              (λ _ _ _ _ _. (tt, tt)) (λ _ _ _ _ _. (tt, tt)) (λ _. tt) refl;
         },
       )
 
@@ -393,7 +393,7 @@ module _ (setup : Setup) where
           log = r.1.log;
           logged = logged_lent n r.1.log s.views id v r.1.logged at knows;
           nodes = beside_split setup _ _ s.views r.1.nodes id v w (logging (known_log v.log)) at (sym (ap knowers knows)) (omega arith) (omega arith)
-              (λ fits. (fits, tt)) (λ _ fits. (fits, tt)) refl refl;
+              (λ _ _ _ fits. (fits, tt)) (λ _ _ _ fits. (fits, tt)) refl refl;
         },
       )
 
@@ -412,7 +412,7 @@ module _ (setup : Setup) where
           nodes =
               let a = ap knowers none in
               beside_join setup _ _ s.views r.1.nodes id other v w m (holding 0 [] []) at there here (omega arith) (omega arith) (omega arith)
-              (λ fits _. (fits, tt)) (λ _ fits _. (fits, tt)) (λ fits. fits) refl;
+              (λ _ _ _ fits _. (fits, tt)) (λ _ _ _ fits _. (fits, tt)) (λ fits. fits) refl;
         },
       )
 
@@ -435,7 +435,7 @@ module _ (setup : Setup) where
             (record {
               log = log ++ note_at call effect n ∷ [];
               logged = logged_noted n log s.views id v call effect l at knows (contains_some v.drawn call drew) above;
-              nodes = beside_known setup _ _ s.views r.1.nodes id v w (log ++ note_at call effect n ∷ []) at (ap knowers knows) refl refl refl;
+              nodes = beside_known setup _ _ s.views r.1.nodes id v w (log ++ note_at call effect n ∷ []) at (ap knowers knows) refl refl;
             }),
         ((refl, above, subst (All (λ (m : Note). m.look ≤ n)) (sym is) (looks_within 0 log n l.rise)), refl),
       )
@@ -474,12 +474,12 @@ whole_of-put_together v w =
     omega arith
 
 -- without nodes the first pass knows the log
-pub first_plain : (setup : Setup) → setup.has_nodes ≡ false → setup.is_shared ≡ false → first_of setup ≡ with_known setup
+pub first_plain : (setup : Setup) → setup.has_ring ≡ false → setup.is_shared ≡ false → first_of setup ≡ with_known setup
 first_plain setup none unshared =
     ap (λ (b : Bool). if b then with_both setup else (if setup.is_shared then holding setup.budget [] [] else with_known setup)) none
     ∙ ap (λ (b : Bool). if b then holding setup.budget [] [] else with_known setup) unshared
 
-pub first_knows : (v : Holding) (setup : Setup) → setup.has_nodes ≡ false → setup.is_shared ≡ false → v ≡ first_of setup → knows_log v
+pub first_knows : (v : Holding) (setup : Setup) → setup.has_ring ≡ false → setup.is_shared ≡ false → v ≡ first_of setup → knows_log v
 first_knows v setup none unshared is = subst knows_log (sym (is ∙ first_plain setup none unshared)) refl
 
 -- a pass knows the log after a note in it

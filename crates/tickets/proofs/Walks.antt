@@ -22,10 +22,10 @@ use Rattle.tickets.specs.declared.note.Effect.TheVariants as effect
 use Rattle.tickets.specs.declared.note.Note.{Note}
 use Rattle.tickets.specs.Account.{whole_of}
 use Rattle.tickets.specs.Log.{LooksRise, note_at}
-use Rattle.tickets.specs.Nodes.{queue_after}
-use Rattle.tickets.specs.Inner.Account.{KeepsAccount, holding, first_of, with_both, with_known, shared_initial, shared_room}
-use Rattle.tickets.specs.Inner.Nodes.{told}
-use Rattle.tickets.specs.Inner.Shared.{walk_at, walking, at_rest, value_of, FitsWalk, AreFilled, rights, AreShared, shared_words}
+use Rattle.tickets.specs.Queue.{queue_after}
+use Rattle.tickets.specs.Inner.Account.{KeepsAccount, holding, first_of, with_both, with_known, initial_of, room_of}
+use Rattle.tickets.specs.Inner.Ring.{told}
+use Rattle.tickets.specs.Inner.Shared.{walk_at, walking, at_rest, value_of, FitsWalk, AreFilled, rights, AreShared, row_words}
 use Rattle.tickets.specs.Inner.Shared.{BeginsToPut, BeginsToTake, LinksAt, DeclinesAt, PeeksAt, ClaimsAt}
 use Rattle.tickets.proofs.Logged.{logged_same, logged_more, logged_all, at_place}
 use Rattle.tickets.proofs.Steps.{kept, kept_else, kept_seen, account_same, contains_some, drawn_below, first_word, others_idle}
@@ -48,7 +48,7 @@ less_than a b low other = by_order (cases_lt a b)
 module _ (setup : Setup) (shared : setup.is_shared ≡ true) (slots id : ℕ) (me : Me (Unit {0}) Holding) where
   -- ---- a call begins
 
-  pub begins_to_put : (call x room : ℕ) → shared_room setup ≡ room
+  pub begins_to_put : (call x room : ℕ) → room_of setup ≡ room
       → Allows (KeepsAccount setup) slots id me 1 (λ n. n) (λ found after. BeginsToPut call x room me.0 found after.0 × (after.1 ≡ me.1))
   begins_to_put call x room is s r _ here _ =
       let v = me.0 in
@@ -73,7 +73,7 @@ module _ (setup : Setup) (shared : setup.is_shared ≡ true) (slots id : ℕ) (m
         ((omega (arith, wide, is, within, hint, first), refl), refl),
       )
 
-  pub begins_to_take : (call room : ℕ) → shared_room setup ≡ room
+  pub begins_to_take : (call room : ℕ) → room_of setup ≡ room
       → Allows (KeepsAccount setup) slots id me 2 (λ n. n) (λ found after. BeginsToTake call room me.0 found after.0 × (after.1 ≡ me.1))
   begins_to_take call room is s r _ here _ =
       let v = me.0 in
@@ -121,7 +121,7 @@ module _ (setup : Setup) (shared : setup.is_shared ≡ true) (slots id : ℕ) (m
       F y = (u : Holding) × (a : Act (Unit {0})) × Valid s.homes me.1 a × KeepsAccount setup (stepped s (at + 3) y id me.1 u a)
           × (((w : Walk) → me.0.walk ≡ Some w → LinksAt w x me.0 found u) × (carried_after me.1 a ≡ me.1))
 
-      o : AreShared (shared_initial setup) (shared_room setup) row r.1.log s.views
+      o : AreShared (initial_of setup) (room_of setup) row r.1.log s.views
       o = shared_beside setup _ _ s.views r.1.nodes shared
 
       fits : FitsWalk row (Some (walk_at call room at (Put x)))
@@ -193,7 +193,7 @@ module _ (setup : Setup) (shared : setup.is_shared ≡ true) (slots id : ℕ) (m
       F y = (w : Holding) × (a : Act (Unit {0})) × Valid s.homes me.1 a × KeepsAccount setup (stepped s 1 y id me.1 w a)
           × (◌≡◌ {A = Me (Unit {0}) Holding} (w, carried_after me.1 a) (record me.0 { walk = k }, me.1))
 
-      o : AreShared (shared_initial setup) (shared_room setup) row r.1.log s.views
+      o : AreShared (initial_of setup) (room_of setup) row r.1.log s.views
       o = shared_beside setup _ _ s.views r.1.nodes shared
 
       all_fit : FitsWalk row v.walk
@@ -270,7 +270,7 @@ module _ (setup : Setup) (shared : setup.is_shared ≡ true) (slots id : ℕ) (m
       row : List ℕ
       row = drop 1 s.words
 
-      o : AreShared (shared_initial setup) (shared_room setup) row r.1.log s.views
+      o : AreShared (initial_of setup) (room_of setup) row r.1.log s.views
       o = shared_beside setup _ _ s.views r.1.nodes shared
 
       fits : FitsWalk row (Some (walk_at call room at Find))
@@ -331,7 +331,7 @@ module _ (setup : Setup) (shared : setup.is_shared ≡ true) (slots id : ℕ) (m
       F y = (u : Holding) × (a : Act (Unit {0})) × Valid s.homes me.1 a × KeepsAccount setup (stepped s 2 y id me.1 u a)
           × (((w : Walk) → me.0.walk ≡ Some w → ClaimsAt w me.0 found u) × (carried_after me.1 a ≡ me.1))
 
-      o : AreShared (shared_initial setup) (shared_room setup) row r.1.log s.views
+      o : AreShared (initial_of setup) (room_of setup) row r.1.log s.views
       o = shared_beside setup _ _ s.views r.1.nodes shared
 
       fits : FitsWalk row (Some (walk_at call room at (Read x)))
@@ -384,7 +384,7 @@ module _ (setup : Setup) (shared : setup.is_shared ≡ true) (slots id : ℕ) (m
 -- a pass with the whole budget has noted the whole log, which a queue accepts
 pub settles_shared : (setup : Setup) → setup.is_shared ≡ true → (id : ℕ) (v : Holding) (words : List ℕ) (slots : List (Unit {0})) (next : ℕ)
     → whole_of v ≡ setup.budget → Final (Seen (KeepsAccount setup) id v) words slots → get_elem? words 0 ≡ some next
-    → (log : List Note) × IsPermutation v.noted log × LooksRise 0 log next × IsSome (queue_after (shared_initial setup) log)
+    → (log : List Note) × IsPermutation v.noted log × LooksRise 0 log next × IsSome (queue_after (initial_of setup) log)
 settles_shared setup shared id v words slots next whole f found =
     let s = f.0 in
     let here = f.1.1 in
@@ -398,28 +398,28 @@ settles_shared setup shared id v words slots next whole f found =
       subst IsSome (sym o.filled.legal) refl,
     )
 
-pub shared_words_long : (initial : List ℕ) (room : ℕ) → length initial ≤ room → length (shared_words initial room) ≡ room + 4
-shared_words_long initial room fits =
+pub row_words_long : (initial : List ℕ) (room : ℕ) → length initial ≤ room → length (row_words initial room) ≡ room + 4
+row_words_long initial room fits =
     let a = length-append initial (replicate (room + 1 - length initial) NO_VALUE) in
     let b = length-replicate (room + 1 - length initial) NO_VALUE in
     omega arith
 
 -- the values that shared nodes hold at first
-pub shared_held : (initial : List ℕ) (room : ℕ) → take (length initial) (drop 3 (shared_words initial room)) ≡ initial
-shared_held initial room = take_at initial (replicate (room + 1 - length initial) NO_VALUE) (length initial) refl
+pub row_words_held : (initial : List ℕ) (room : ℕ) → take (length initial) (drop 3 (row_words initial room)) ≡ initial
+row_words_held initial room = take_at initial (replicate (room + 1 - length initial) NO_VALUE) (length initial) refl
 
 filled_first : (initial : List ℕ) (room : ℕ) → length initial ≤ room → All (λ v. v ≢ NO_VALUE) initial
-    → AreFilled initial (drop 1 (shared_words initial room)) []
+    → AreFilled initial (drop 1 (row_words initial room)) []
 filled_first initial room fits values = record {
   queue = initial;
   legal = refl;
   hint = omega arith;
-  within = (let long = shared_words_long initial room fits in omega arith);
+  within = (let long = row_words_long initial room fits in omega arith);
   lies = λ i h. node (0 + i + 2) i (omega arith) ∙ get_or_append_left initial rest 0 i h;
   full = λ k h bad. All-get_or (λ (v : ℕ). v ≢ NO_VALUE) initial k 0 (omega (arith, h)) values
       (sym (get_or_append_left initial rest 0 k (omega (arith, h))) ∙ sym (node (k + 2) k refl) ∙ bad);
   empty = λ k behind inside.
-      (let long = shared_words_long initial room fits in
+      (let long = row_words_long initial room fits in
       let place : length initial + (k - length initial) ≡ k = omega (arith, behind) in
       node (k + 2) k refl ∙ ap (λ (j : ℕ). get_or (initial ++ rest) j 0) (sym place) ∙ get_or-append-add initial rest (k - length initial) 0
       ∙ get_or-replicate (room + 1 - length initial) (k - length initial) NO_VALUE 0 (omega (arith, behind, inside)));
@@ -432,21 +432,21 @@ filled_first initial room fits values = record {
     node j k e = (let is : j ≡ suc (suc k) = omega arith in ap (λ (i : ℕ). get_or (length initial ∷ 0 ∷ (initial ++ rest)) i 0) is)
 
 -- a table whose nodes all passes share
-pub opens_shared : (setup : Setup) (words initial : List ℕ) (room : ℕ) → setup.has_nodes ≡ false → setup.is_shared ≡ true → setup.filled ≡ length initial
-    → setup.words.value.items ≡ words → words ≡ shared_words initial room → length initial ≤ room → All (λ v. v ≢ NO_VALUE) initial
+pub opens_shared : (setup : Setup) (words initial : List ℕ) (room : ℕ) → setup.has_ring ≡ false → setup.is_shared ≡ true → setup.filled ≡ length initial
+    → setup.words.value.items ≡ words → words ≡ row_words initial room → length initial ≤ room → All (λ v. v ≢ NO_VALUE) initial
     → setup.budget ≤ TICKET_LIMIT → KeepsAccount setup (opening words [] (first_of setup))
 opens_shared setup words initial room none shared filled are is fits values limit =
     subst (λ (l : List ℕ). KeepsAccount setup (opening l [] (first_of setup))) (sym is)
-    (subst (λ (w : Holding). KeepsAccount setup (opening (shared_words initial room) [] w)) (sym first) (
+    (subst (λ (w : Holding). KeepsAccount setup (opening (row_words initial room) [] w)) (sym first) (
       (omega arith, opens_account setup v refl refl limit),
-      booked setup 0 (shared_words initial room) [] (v ∷ []) (opens_log setup v refl tt) (inr (
+      booked setup 0 (row_words initial room) [] (v ∷ []) (opens_log setup v refl tt) (inr (
         shared,
         record {
           none = omega (arith, sum_by-cons rights v []);
           wide = omega (arith, long, length_all);
-          walks = All-cons (λ (h : Holding). FitsWalk (drop 1 (shared_words initial room)) h.walk) v [] tt
-              (All-nil (λ (h : Holding). FitsWalk (drop 1 (shared_words initial room)) h.walk));
-          filled = subst (λ (l : List ℕ). AreFilled l (drop 1 (shared_words initial room)) []) (sym held) (filled_first initial room fits values);
+          walks = All-cons (λ (h : Holding). FitsWalk (drop 1 (row_words initial room)) h.walk) v [] tt
+              (All-nil (λ (h : Holding). FitsWalk (drop 1 (row_words initial room)) h.walk));
+          filled = subst (λ (l : List ℕ). AreFilled l (drop 1 (row_words initial room)) []) (sym held) (filled_first initial room fits values);
         },
       )),
     ))
@@ -458,15 +458,15 @@ opens_shared setup words initial room none shared filled are is fits values limi
     first = ap (λ (b : Bool). if b then with_both setup else (if setup.is_shared then v else with_known setup)) none
         ∙ ap (λ (b : Bool). if b then v else with_known setup) shared
 
-    long : length (shared_words initial room) ≡ room + 4
-    long = shared_words_long initial room fits
+    long : length (row_words initial room) ≡ room + 4
+    long = row_words_long initial room fits
 
     length_all : length setup.words.value.items ≡ room + 4
     length_all = ap length (are ∙ is) ∙ long
 
-    held : shared_initial setup ≡ initial
-    held = ap (λ (l : List ℕ). take setup.filled (drop 3 l)) (are ∙ is) ∙ ap (λ (k : ℕ). take k (drop 3 (shared_words initial room))) filled
-        ∙ shared_held initial room
+    held : initial_of setup ≡ initial
+    held = ap (λ (l : List ℕ). take setup.filled (drop 3 l)) (are ∙ is) ∙ ap (λ (k : ℕ). take k (drop 3 (row_words initial room))) filled
+        ∙ row_words_held initial room
 
 -- ---- the case that a step was
 

@@ -1,4 +1,4 @@
 -- Relations that only contracts of private functions name.
 pub mod Account
-pub mod Nodes
+pub mod Ring
 pub mod Shared

@@ -5,11 +5,12 @@ use Rattle.atomic_table.specs.Seated.{TableId}
 use Rattle.tickets.specs.declared.TheConstants.{TICKET_LIMIT}
 use Rattle.tickets.specs.declared.note.Note.{Note}
 
--- a ticket word: its key, the number of tickets that may be drawn in all, whether nodes that all passes share stand
--- beside it, the number of values that these have room for, and the values that they held at first
+-- a ticket word: its key, the number of tickets that may be drawn in all, whether a ring with two ends or nodes that all
+-- passes share stand beside it, the number of values that these have room for, and the values that they held at first
 pub record TicketsView : Type 0 where
   pub key : TableId
   pub budget : ℕ
+  pub ended : Bool
   pub shared : Bool
   pub room : ℕ
   pub initial : List ℕ

@@ -19,18 +19,18 @@ mod account;
 mod drawn;
 mod laws;
 mod log;
-mod nodes;
 mod note;
 mod pass;
+mod ring;
 mod shared;
 mod source;
 
 pub use drawn::Drawn;
 pub use laws::each_ticket_is_drawn_once;
 pub use log::Log;
-pub use nodes::{HeadEnd, TailEnd};
 pub use note::{Effect, Note};
 pub use pass::Pass;
+pub use ring::{HeadEnd, TailEnd};
 pub use source::Tickets;
 
 /// The largest budget. Every ticket is below it.

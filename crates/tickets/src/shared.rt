@@ -106,7 +106,7 @@ fn pop_on(tickets: &Tickets, seat: &mut Seat<(), Holding>, call: u64) -> Option<
 impl Pass {
     ghost use Rattle.std.specs.Prelude.{◌≡◌, [], ◌∷◌, ◌++◌, ℕ, Contains, true};
     ghost use Rattle.tickets.specs.Log.{note_at};
-    ghost use Rattle.tickets.specs.Nodes.{effect_of_put, effect_of_take};
+    ghost use Rattle.tickets.specs.Queue.{effect_of_put, effect_of_take};
 
     /// Enqueues a value in the first empty node of those that all passes share, and notes the operation, whose call
     /// ticket this pass drew. Returns false if the enqueue failed: no node is left, or the value is

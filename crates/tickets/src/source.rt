@@ -1,15 +1,13 @@
 // The word that all passes draw from.
-ghost use Rattle.std.specs.Prelude.{◌≡◌, ◌+◌, ◌≤◌, IfOk, length, take, drop, slice_index_or};
+ghost use Rattle.std.specs.Prelude.{◌≡◌, ◌≤◌, IfOk, length};
 ghost use Rattle.tickets.specs.declared.TheConstants.{TICKET_LIMIT};
-ghost use Rattle.tickets.specs.Inner.Shared.{shared_words};
+ghost use Rattle.tickets.specs.Inner.Shared.{row_words};
 
 use crate::NO_VALUE;
-use crate::account::{
-    Account, EndsApart, HeadApart, Holding, LogApart, Setup, TakesEnds, TakesLog,
-};
+use crate::account::{Account, EndsApart, HeadApart, Holding, LogApart, Setup, TakesLog};
 use crate::log::Log;
-use crate::nodes::{HeadEnd, TailEnd};
 use crate::pass::Pass;
+use crate::ring::{HeadEnd, TailEnd};
 use atomic_table::Table;
 use std::alloc::{AllocError, Global};
 use std::marker::Model;
@@ -18,12 +16,12 @@ use std::snapshot::Snapshot;
 /// The word that tickets are drawn from. It holds the next ticket; the first one is 0.
 ///
 /// Threads share it by reference. Contracts see its key, which says which word it is, and its budget: the number of
-/// tickets that may be drawn in all. They also see whether nodes that all passes share stand beside it, the number of
-/// values that these have room for, and the values that they held at first.
+/// tickets that may be drawn in all. They also see whether a ring with two ends or nodes that all passes share stand
+/// beside it, the number of values that these have room for, and the values that they held at first.
 #[derive(Drop)]
 pub struct Tickets {
     pub(crate) table: Table<(), Holding, Setup, Account, Global>,
-    // Number of values that the shared nodes have room for; 0 if there are no such nodes.
+    // Number of values that the ring or the shared nodes have room for; 0 if there are neither.
     pub(crate) room: usize,
 }
 
@@ -32,27 +30,30 @@ impl Model for Tickets {
 
     ghost Value = { TicketsView };
 
-    ghost use Rattle.std.specs.Prelude.{◌≡◌, ◌+◌, ◌<◌, ◌≤◌, length, true};
+    ghost use Rattle.std.specs.Prelude.{◌≡◌, ◌+◌, ◌<◌, ◌≤◌, length, true, false};
     ghost use Rattle.tickets.specs.declared.TheConstants.{TICKET_LIMIT};
-    ghost use Rattle.tickets.specs.Inner.Account.{shared_initial};
+    ghost use Rattle.tickets.specs.Inner.Account.{initial_of};
 
     ghost view = { λ t. record {
       key = t.table.shared.table_id;
       budget = t.table.shared.key.budget;
+      ended = t.table.shared.key.has_ring;
       shared = t.table.shared.key.is_shared;
       room = t.room;
-      initial = shared_initial t.table.shared.key;
+      initial = initial_of t.table.shared.key;
     } };
 
     ghost invariant = { λ t. (0 < t.table.shared.table_id.words) × (t.table.shared.table_id.slots ≡ 0)
-        × (t.table.shared.key.is_shared ≡ true → (t.table.shared.table_id.words ≡ t.room + 4) × (length t.table.shared.key.words.value.items ≡ t.room + 4)
-        × (t.room ≤ TICKET_LIMIT)) };
+        × (t.table.shared.key.is_shared ≡ true → (t.table.shared.table_id.words ≡ t.room + 4)
+        × (length t.table.shared.key.words.value.items ≡ t.room + 4) × (t.room ≤ TICKET_LIMIT))
+        × (t.table.shared.key.has_ring ≡ true → (t.table.shared.key.is_shared ≡ false)
+        × (length t.table.shared.key.words.value.items ≡ t.room + 4)) };
 }
 
 impl Tickets {
     ghost use Rattle.std.specs.Prelude.{◌≡◌, ◌≢◌, ◌≤◌, [], All, IfOk, IsPermutation, List, IsSome, length, true};
     ghost use Rattle.tickets.specs.declared.note.Note.{Note};
-    ghost use Rattle.tickets.specs.Nodes.{queue_after};
+    ghost use Rattle.tickets.specs.Queue.{bounded_after, queue_after};
     ghost use Rattle.tickets.specs.declared.TheConstants.{NO_VALUE, TICKET_LIMIT};
     ghost use Rattle.tickets.specs.Log.{LooksRise};
     ghost use Rattle.tickets.specs.Views.{fresh_pass, share_of, numbers_below};
@@ -82,7 +83,7 @@ impl Tickets {
     {
         let setup = Setup {
             budget,
-            has_nodes: false,
+            has_ring: false,
             is_shared: false,
             filled: 0,
             words: Snapshot::of(&Vec::new(alloc)),
@@ -100,11 +101,11 @@ impl Tickets {
         ))
     }
 
-    /// Makes a new word with a row of nodes beside it, a pass whose share is the whole budget, and the two ends of the
-    /// row. The nodes hold the values of `initial` at first, and have room for `room` values in all.
+    /// Makes a new word with a ring beside it, a pass whose share is the whole budget, and the two ends of the ring. The
+    /// ring holds the values of `initial` at first, and has room for `room` values.
     ///
-    /// It takes memory for each node, and fails only if it is out of memory.
-    pub fn with_nodes(
+    /// It takes memory for each cell, and fails only if it is out of memory.
+    pub fn with_ring(
         alloc: Global,
         budget: u64,
         initial: &[u64],
@@ -114,14 +115,17 @@ impl Tickets {
         requires fits { length initial.now ≤ room }
         requires room { room ≤ TICKET_LIMIT }
         ensures budget { IfOk result (λ t. t.0.budget ≡ budget) }
+        ensures ended { IfOk result (λ t. t.0.ended ≡ true) }
+        ensures room { IfOk result (λ t. t.0.room ≡ room) }
+        ensures initial { IfOk result (λ t. t.0.initial ≡ initial.now) }
         ensures pass { IfOk result (λ t. t.1 ≡ fresh_pass t.0.key budget) }
         ensures tail { IfOk result (λ t. t.2 ≡ t.0.key) }
-        ensures head { IfOk result (λ t. t.3 ≡ record { key = t.0.key; initial = initial.now }) }
+        ensures head { IfOk result (λ t. t.3 ≡ t.0.key) }
     {
-        let words = words_of(alloc, initial, room)?;
+        let words = row_of(alloc, initial, room)?;
         let setup = Setup {
             budget,
-            has_nodes: true,
+            has_ring: true,
             is_shared: false,
             filled: initial.len(),
             words: Snapshot::of(&words),
@@ -130,7 +134,7 @@ impl Tickets {
         let mut ends = table.shared.split_seat::<EndsApart>(&mut seat);
         let head = table.shared.split_seat::<HeadApart>(&mut ends);
         Ok((
-            Tickets { table, room: 0 },
+            Tickets { table, room },
             Pass {
                 seat,
                 share: budget,
@@ -160,10 +164,10 @@ impl Tickets {
         ensures initial { IfOk result (λ t. t.0.initial ≡ initial.now) }
         ensures pass { IfOk result (λ t. t.1 ≡ fresh_pass t.0.key budget) }
     {
-        let words = shared_words_of(alloc, initial, room)?;
+        let words = row_of(alloc, initial, room)?;
         let setup = Setup {
             budget,
-            has_nodes: false,
+            has_ring: false,
             is_shared: true,
             filled: initial.len(),
             words: Snapshot::of(&words),
@@ -187,12 +191,7 @@ impl Tickets {
         requires whole { share_of pass ≡ self.budget }
         ensures { pass.drawn ≡ numbers_below result }
     {
-        let Tickets { table, room: _ } = self;
-        let (seat, _, _) = pass.into_parts();
-        let closed = table.close_with(seat);
-        let next = closed.word(0);
-        closed.free();
-        next
+        self.settle(pass)
     }
 
     /// Closes the word, and returns the number of tickets that were drawn, as `close` does. The share of `pass` is the
@@ -217,24 +216,17 @@ impl Tickets {
     }
 
     /// Closes the word, and returns the number of tickets that were drawn, as `close` does. The share of `pass` is the
-    /// whole budget, so it noted each operation at both ends of the nodes: its notes are those of a log whose looks
-    /// rise, and a queue that held the nodes' first values accepts that log. It takes no memory.
-    pub fn close_with_nodes(self, pass: Pass, head: HeadEnd) -> u64
-        requires key { pass.key ≡ self.key }
-        requires head_key { head.key ≡ self.key }
+    /// whole budget, so it noted each operation at both ends of the ring: its notes are those of a log whose looks rise,
+    /// and which a bounded queue accepts that held the ring's first values. In that log an enqueue fails if the queue is
+    /// full, and only then. It takes no memory.
+    pub fn close_with_ring(self, pass: Pass) -> u64
+        requires key { (pass.key ≡ self.key) × (self.ended ≡ true) }
         requires whole { share_of pass ≡ self.budget }
         ensures drawn { pass.drawn ≡ numbers_below result }
-        ensures log { (log : List Note) × IsPermutation pass.noted log × LooksRise 0 log result × IsSome (queue_after head.initial log) }
+        ensures log { (log : List Note) × IsPermutation pass.noted log × LooksRise 0 log result × IsSome (queue_after self.initial log)
+            × IsSome (bounded_after self.room self.initial log) }
     {
-        let Tickets { table, room: _ } = self;
-        let (mut seat, _, _) = pass.into_parts();
-        table
-            .shared
-            .join_seat::<TakesEnds>(&mut seat, head.into_seat());
-        let closed = table.close_with(seat);
-        let total = closed.word(0);
-        closed.free();
-        total
+        self.settle(pass)
     }
 
     /// Closes the word, and returns the number of tickets that were drawn, as `close` does. The share of `pass` is the
@@ -246,6 +238,19 @@ impl Tickets {
         ensures drawn { pass.drawn ≡ numbers_below result }
         ensures log { (log : List Note) × IsPermutation pass.noted log × LooksRise 0 log result × IsSome (queue_after self.initial log) }
     {
+        self.settle(pass)
+    }
+
+    // Closes the word by the pass with the whole budget, and returns the number of tickets that were drawn.
+    fn settle(self, pass: Pass) -> u64
+        requires key { pass.key ≡ self.key }
+        requires whole { share_of pass ≡ self.budget }
+        ensures drawn { pass.drawn ≡ numbers_below result }
+        ensures ring { self.ended ≡ true → (log : List Note) × IsPermutation pass.noted log × LooksRise 0 log result
+            × IsSome (queue_after self.initial log) × IsSome (bounded_after self.room self.initial log) }
+        ensures nodes { self.shared ≡ true → (log : List Note) × IsPermutation pass.noted log × LooksRise 0 log result
+            × IsSome (queue_after self.initial log) }
+    {
         let Tickets { table, room: _ } = self;
         let (seat, _, _) = pass.into_parts();
         let closed = table.close_with(seat);
@@ -255,28 +260,13 @@ impl Tickets {
     }
 }
 
-// Returns the words of a table with nodes that have two ends: the next ticket, the count of enqueued values, and the
-// nodes.
-fn words_of(alloc: Global, initial: &[u64], room: usize) -> Result<Vec<u64>, AllocError>
+// Returns the words of a table with a ring or with shared nodes: the next ticket, two numbers, and the cells or nodes. One
+// cell more than values have room for stays empty: a ring is full then, and a dequeue from shared nodes finds an empty
+// one after all others.
+fn row_of(alloc: Global, initial: &[u64], room: usize) -> Result<Vec<u64>, AllocError>
     requires fits { length initial.now ≤ room }
     requires room { room ≤ TICKET_LIMIT }
-    ensures long { IfOk result (λ words. length words.items ≡ room + 2) }
-    ensures first { IfOk result (λ words. slice_index_or words.items 0 0 ≡ 0) }
-    ensures count { IfOk result (λ words. slice_index_or words.items 1 0 ≡ length initial.now) }
-    ensures values { IfOk result (λ words. take (length initial.now) (drop 2 words.items) ≡ initial.now) }
-{
-    let mut words = vec![in alloc; 0, initial.len() as u64]?;
-    words.extend_from_slice(initial)?;
-    words.resize(room + 2, 0)?;
-    Ok(words)
-}
-
-// Returns the words of a table whose nodes all passes share: the next ticket, two counts, and the nodes. One node more
-// than there is room for stays empty, so that a dequeue finds an empty node after all values were dequeued.
-fn shared_words_of(alloc: Global, initial: &[u64], room: usize) -> Result<Vec<u64>, AllocError>
-    requires fits { length initial.now ≤ room }
-    requires room { room ≤ TICKET_LIMIT }
-    ensures { IfOk result (λ words. words.items ≡ shared_words initial.now room) }
+    ensures { IfOk result (λ words. words.items ≡ row_words initial.now room) }
 {
     let mut words = vec![in alloc; 0, initial.len() as u64, 0]?;
     words.extend_from_slice(initial)?;

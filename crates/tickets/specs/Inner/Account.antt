@@ -1,6 +1,6 @@
 -- The account that every step keeps, and what each step does to a view.
 use Rattle.std.specs.Prelude.{◌≡◌, ℕ, ◌+◌, ◌<◌, ◌≤◌, List, [], ◌∷◌, ◌++◌, length, All, slice_index}
-use Rattle.std.specs.Prelude.{cond, nat_lt, ◌-◌, take, drop, if◌then◌else◌, false, true, ◌⊎◌, Option, Some, None}
+use Rattle.std.specs.Prelude.{cond, nat_lt, ◌-◌, sum_by, take, drop, if◌then◌else◌, false, true, ◌⊎◌, Option, Some, None}
 use Rattle.std.specs.List.Sorted.{IsStrictlyIncreasing}
 use Rattle.atomic_table.specs.Table.{State}
 use Rattle.tickets.specs.declared.TheConstants.{TICKET_LIMIT}
@@ -10,7 +10,8 @@ use Rattle.tickets.specs.declared.note.Effect.{Effect}
 use Rattle.tickets.specs.declared.note.Note.{Note}
 use Rattle.tickets.specs.Account.{whole_of, IsAccount}
 use Rattle.tickets.specs.Log.{IsLogged, note_at}
-use Rattle.tickets.specs.Inner.Nodes.{AreNodes, head_at, tail_at}
+use Rattle.tickets.specs.Inner.Ring.{AreNodes, ends_of, head_at, tail_at}
+use Rattle.tickets.specs.declared.account.Next.TheVariants.{Unknown}
 use Rattle.tickets.specs.Inner.Shared.{AreShared}
 
 -- a pass that may still draw this many tickets, with these tickets and notes
@@ -21,23 +22,23 @@ holding left drawn noted = record { left = left; drawn = drawn; noted = noted; l
 abbrev pub logging : List Note → Holding
 logging log = record { left = 0; drawn = []; noted = []; log = Some log; tail = None; head = None; walk = None }
 
--- the values that nodes with two ends hold at first
+-- the values that the ring or the nodes hold at first: two counts stand before them
 abbrev pub initial_of : Setup → List ℕ
-initial_of setup = take setup.filled (drop 2 setup.words.value.items)
+initial_of setup = take setup.filled (drop 3 setup.words.value.items)
 
--- the number of values that nodes with two ends have room for
+-- the number of values that they have room for: one cell more is there
 abbrev pub room_of : Setup → ℕ
-room_of setup = length setup.words.value.items - 2
+room_of setup = length setup.words.value.items - 4
 
--- the first pass, with the whole budget and both ends of the nodes
+-- the first pass, with the whole budget and both ends of the ring
 abbrev pub with_both : Setup → Holding
 with_both setup = record {
   left = setup.budget;
   drawn = [];
   noted = [];
   log = None;
-  tail = Some (tail_at setup.filled (room_of setup) None);
-  head = Some (head_at 0 (room_of setup) (initial_of setup) false);
+  tail = Some (tail_at setup.filled 0 (room_of setup) None);
+  head = Some (head_at 0 (room_of setup) Unknown);
   walk = None;
 }
 
@@ -47,20 +48,17 @@ with_known setup = record { left = setup.budget; drawn = []; noted = []; log = S
 
 -- the first pass; if passes share nodes, it has neither an end nor the log
 abbrev pub first_of : Setup → Holding
-first_of setup = if setup.has_nodes then with_both setup else (if setup.is_shared then holding setup.budget [] [] else with_known setup)
+first_of setup = if setup.has_ring then with_both setup else (if setup.is_shared then holding setup.budget [] [] else with_known setup)
 
--- the values that shared nodes hold at first
-abbrev pub shared_initial : Setup → List ℕ
-shared_initial setup = take setup.filled (drop 3 setup.words.value.items)
+-- the words after the ticket word, if no passes share nodes: a ring, or no pass has an end of one
+abbrev pub AreOwned : Setup → List ℕ → List Note → List Holding → Type 0
+AreOwned setup row log views = ((setup.has_ring ≡ false) × (sum_by ends_of views ≡ 0))
+    ⊎ ((setup.has_ring ≡ true) × AreNodes (initial_of setup) (room_of setup) row log views)
 
--- the number of values that shared nodes have room for
-abbrev pub shared_room : Setup → ℕ
-shared_room setup = length setup.words.value.items - 4
-
--- the words after the ticket word are nodes with two ends, or nodes that all passes share
+-- the words after the ticket word are a ring or nodes that all passes share, or there are none
 abbrev pub AreBeside : Setup → List ℕ → List Note → List Holding → Type 0
-AreBeside setup row log views = ((setup.is_shared ≡ false) × AreNodes (initial_of setup) row log views)
-    ⊎ ((setup.is_shared ≡ true) × AreShared (shared_initial setup) (shared_room setup) row log views)
+AreBeside setup row log views = ((setup.is_shared ≡ false) × AreOwned setup row log views)
+    ⊎ ((setup.is_shared ≡ true) × AreShared (initial_of setup) (room_of setup) row log views)
 
 -- there is a log of all notes, and the words after the ticket word fit it
 pub record AreBooked (setup : Setup) (next : ℕ) (words : List ℕ) (views : List Holding) : Type 0 where

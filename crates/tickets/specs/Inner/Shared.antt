@@ -9,8 +9,8 @@ use Rattle.tickets.specs.declared.account.Aim.TheVariants.{Put, Find, Read}
 use Rattle.tickets.specs.declared.note.Effect.TheVariants as effect
 use Rattle.tickets.specs.declared.note.Note.{Note}
 use Rattle.tickets.specs.Log.{knowers}
-use Rattle.tickets.specs.Nodes.{queue_after, effect_of_put, effect_of_take}
-use Rattle.tickets.specs.Inner.Nodes.{holders, told}
+use Rattle.tickets.specs.Queue.{queue_after, effect_of_put, effect_of_take}
+use Rattle.tickets.specs.Inner.Ring.{holders, told}
 use Rattle.atomic_table.specs.Table.{Me}
 
 -- a call with this ticket, at this node of nodes with room for this many values, with this aim
@@ -63,8 +63,8 @@ pub record AreFilled (initial row : List ℕ) (log : List Note) : Type 0 where
 
 -- the words at first: the next ticket 0, the counts of enqueued and of dequeued values, and the nodes, one more than
 -- there is room for
-abbrev pub shared_words : List ℕ → ℕ → List ℕ
-shared_words initial room = 0 ∷ length initial ∷ 0 ∷ (initial ++ replicate (room + 1 - length initial) NO_VALUE)
+abbrev pub row_words : List ℕ → ℕ → List ℕ
+row_words initial room = 0 ∷ length initial ∷ 0 ∷ (initial ++ replicate (room + 1 - length initial) NO_VALUE)
 
 -- the number of rights that a view has: the log, and the ends of the nodes
 abbrev pub rights : Holding → ℕ

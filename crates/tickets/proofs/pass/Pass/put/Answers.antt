@@ -2,7 +2,7 @@ use Rattle.std.proofs.Common.{rules, sym, ap, subst, []}
 use Rattle.atomic_table.specs.Table.{Joins}
 use Rattle.tickets.specs.declared.account.Holding.{Holding}
 use Rattle.tickets.specs.Inner.Account.{holding, KeepsAccount}
-use Rattle.tickets.specs.Inner.Nodes.{with_ends}
+use Rattle.tickets.specs.Inner.Ring.{with_ends}
 use Rattle.tickets.proofs.Ends.{parts, takes_ends}
 use Rattle.tickets.proofs.pass.Pass.put.Goals as goal
 

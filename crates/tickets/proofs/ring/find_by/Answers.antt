@@ -1,9 +1,9 @@
-use Rattle.std.proofs.Common.{rules, sym, subst, slice_index}
+use Rattle.std.proofs.Common.{rules, sym, subst, refl, slice_index}
 use mathlib.Core.Option.{none}
 use Rattle.atomic_table.specs.Table.{step}
-use Rattle.tickets.specs.Inner.Nodes.{first_held}
+use Rattle.tickets.specs.declared.account.Next.TheVariants.{Unknown}
 use Rattle.tickets.proofs.Ends.{finds}
-use Rattle.tickets.proofs.nodes.find_by.Goals as goal
+use Rattle.tickets.proofs.ring.find_by.Goals as goal
 
 pub load-requires : goal.load-requires
 load-requires g c = (
@@ -12,7 +12,8 @@ load-requires g c = (
   λ s r long at small.
       let n = slice_index s.words 1 in
       let me = c.args.seat.now.me in
-      let x = finds c.tickets.inside.table.shared.key _ _ me c.args.call c.args.head.0 c.args.head.1 (first_held me.0.head) c.requires.asks c.requires.drew s r long at small in
+      let place = c.args.place in
+      let x = finds c.tickets.inside.table.shared.key _ _ me c.args.call place.at place.room Unknown c.requires.asks refl c.requires.drew s r long at small in
       let the_step = step c.tickets.inside.table.shared.table_id.slots 1 0 0 none in (
         x.0,
         x.1,
