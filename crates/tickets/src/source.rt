@@ -254,9 +254,9 @@ impl Tickets {
         let Tickets { table, room: _ } = self;
         let (seat, _, _) = pass.into_parts();
         let closed = table.close_with(seat);
-        let total = closed.word(0);
+        let next = closed.word(0);
         closed.free();
-        total
+        next
     }
 }
 

@@ -21,7 +21,7 @@ whole c =
 
 pub returns-clause-drawn : goal.returns-clause-drawn
 returns-clause-drawn c = sym (ap (λ m. m.0.drawn) c.into_parts-seat.ensures.seat)
-    ∙ closes c.self.inside.table.shared.key _ c.into_parts-seat.result.0.me.0 _ _ c.word-total.result (whole c) c.close_with-closed.ensures.values.2 c.word-total.ensures
+    ∙ closes c.self.inside.table.shared.key _ c.into_parts-seat.result.0.me.0 _ _ c.word-next.result (whole c) c.close_with-closed.ensures.values.2 c.word-next.ensures
 
 pub returns-clause-ring : goal.returns-clause-ring
 returns-clause-ring c ended =
@@ -31,24 +31,24 @@ returns-clause-ring c ended =
     let known = c.self.invariant.3 ring in
     let shown = ap (λ (t : TicketsView). t.room) c.self.view_is in
     let room : room_of key ≡ c.args.self.room = (let long = known.1 in omega arith) in
-    subst (λ (k : ℕ). (log : List Note) × IsPermutation c.args.pass.noted log × LooksRise 0 log c.word-total.result
+    subst (λ (k : ℕ). (log : List Note) × IsPermutation c.args.pass.noted log × LooksRise 0 log c.word-next.result
     × IsSome (queue_after c.args.self.initial log) × IsSome (bounded_after k c.args.self.initial log)) room
-    (subst (λ (values : List ℕ). (log : List Note) × IsPermutation c.args.pass.noted log × LooksRise 0 log c.word-total.result
+    (subst (λ (values : List ℕ). (log : List Note) × IsPermutation c.args.pass.noted log × LooksRise 0 log c.word-next.result
     × IsSome (queue_after values log) × IsSome (bounded_after (room_of key) values log)) initial
-    (subst (λ (ns : List Note). (log : List Note) × IsPermutation ns log × LooksRise 0 log c.word-total.result
+    (subst (λ (ns : List Note). (log : List Note) × IsPermutation ns log × LooksRise 0 log c.word-next.result
     × IsSome (queue_after (initial_of key) log) × IsSome (bounded_after (room_of key) (initial_of key) log))
     (ap (λ m. m.0.noted) c.into_parts-seat.ensures.seat)
-    (settles_ring key _ c.into_parts-seat.result.0.me.0 _ _ c.word-total.result ring known.0 (whole c)
-    c.close_with-closed.ensures.values.2 c.word-total.ensures)))
+    (settles_ring key _ c.into_parts-seat.result.0.me.0 _ _ c.word-next.result ring known.0 (whole c)
+    c.close_with-closed.ensures.values.2 c.word-next.ensures)))
 
 pub returns-clause-nodes : goal.returns-clause-nodes
 returns-clause-nodes c is_shared =
     let shared : c.self.inside.table.shared.key.is_shared ≡ true = ap (λ (t : TicketsView). t.shared) c.self.view_is ∙ is_shared in
     let initial = ap (λ (t : TicketsView). t.initial) c.self.view_is in
-    subst (λ (values : List ℕ). (log : List Note) × IsPermutation c.args.pass.noted log × LooksRise 0 log c.word-total.result × IsSome (queue_after values log))
+    subst (λ (values : List ℕ). (log : List Note) × IsPermutation c.args.pass.noted log × LooksRise 0 log c.word-next.result × IsSome (queue_after values log))
     initial
-    (subst (λ (ns : List Note). (log : List Note) × IsPermutation ns log × LooksRise 0 log c.word-total.result
+    (subst (λ (ns : List Note). (log : List Note) × IsPermutation ns log × LooksRise 0 log c.word-next.result
     × IsSome (queue_after (initial_of c.self.inside.table.shared.key) log))
     (ap (λ m. m.0.noted) c.into_parts-seat.ensures.seat)
-    (settles_shared c.self.inside.table.shared.key shared _ c.into_parts-seat.result.0.me.0 _ _ c.word-total.result (whole c)
-    c.close_with-closed.ensures.values.2 c.word-total.ensures))
+    (settles_shared c.self.inside.table.shared.key shared _ c.into_parts-seat.result.0.me.0 _ _ c.word-next.result (whole c)
+    c.close_with-closed.ensures.values.2 c.word-next.ensures))
