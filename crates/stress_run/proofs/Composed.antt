@@ -49,6 +49,7 @@ module _ (may : Question → Answer → Type 0) where
   -- a worker that stays the same one in each of two parts stays the same one in both
   pub same_then : (w v u : WorkerView) → SameWorker w v → SameWorker v u → SameWorker w u
   same_then w v u p q = record {
+    ends = q.ends ∙ p.ends;
     thread = q.thread ∙ p.thread;
     ring = q.ring ∙ p.ring;
     capacity = q.capacity ∙ p.capacity;
@@ -71,7 +72,7 @@ module _ (may : Question → Answer → Type 0) where
   -- no operation leaves a worker as it was
   pub works_none : (w : WorkerView) → Works may [] w w
   works_none w = record {
-    same = record { thread = refl; ring = refl; capacity = refl; tries = refl; key = refl; share = refl };
+    same = record { ends = refl; thread = refl; ring = refl; capacity = refl; tries = refl; key = refl; share = refl };
     running = refl;
     asked = omega arith;
     left = omega arith;

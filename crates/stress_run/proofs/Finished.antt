@@ -13,19 +13,21 @@ use Rattle.atomic_table.specs.Seated.{TableId}
 use Rattle.tickets.specs.Views.{PassView, fresh_pass, share_of, numbers_below}
 use Rattle.event_records.specs.Question.{Question}
 use Rattle.event_records.specs.declared.kind.Kind.{Kind}
+use Rattle.event_records.specs.declared.kind.Kind.TheVariants.{Enq, Deq}
 use Rattle.event_records.specs.declared.kind.Answer.{Answer}
 use Rattle.event_records.specs.declared.event.Event.{Event}
 use Rattle.event_rings.specs.Ring.{TokenView}
 use Rattle.workloads.specs.Plans.{IsPlan}
+use Rattle.stress_run.specs.Ends.{EndsView, end_for}
 use Rattle.stress_run.specs.Operations.{Operates, IsRun, ticket_of}
 use Rattle.stress_run.specs.Workers.{WorkerView, Works, WorksIn, row_of}
 use Rattle.stress_run.specs.Inner.Workers.{IsReadyIn}
 use Rattle.stress_run.specs.Crew.{SizesView, IsNew, IsCrew, IsNotAfterStall, IsFaultOfWorker, token_of}
-use Rattle.stress_run.specs.Inner.Crew.{AreClosed, IsFaultOfClosing, Stands, end_of}
+use Rattle.stress_run.specs.Inner.Crew.{AreClosed, HasItsEnds, IsFaultOfClosing, Stands, end_of}
 use Rattle.stress_run.specs.Failed.{IsFaultAfter, IsFaultOfRun, Overflows}
 use Rattle.stress_run.specs.Faults.{IsWithinLimits}
 use Rattle.stress_run.specs.declared.faults.RunFault.{RunFault}
-use Rattle.stress_run.specs.declared.faults.RunFault.TheVariants.{Limit, Memory, Stalled, CloseLost, Uncertified, Preload}
+use Rattle.stress_run.specs.declared.faults.RunFault.TheVariants.{Limit, Roles, Memory, Stalled, CloseLost, Uncertified, Preload}
 use Rattle.stress_run.proofs.Composed.{stays, runs, overflows}
 use Rattle.collector.specs.Ends.{rings_of}
 use Rattle.collector.specs.Inner.Ends.{rings_of_tokens}
@@ -97,6 +99,11 @@ ends_fresh [] k d h = absurd (omega (arith, h))
 ends_fresh (w ∷ ws) zero d h = refl
 ends_fresh (w ∷ ws) (suc k) d h = ends_fresh ws k d (omega (arith, h))
 
+-- if both ends serve, that of each kind of operation does
+both_serve : (serves : Option TableId → Type 0) (ends : EndsView) → serves ends.tail × serves ends.head → (kind : Kind) → serves (end_for kind ends)
+both_serve serves ends both Enq = both.0
+both_serve serves ends both Deq = both.1
+
 module _ (key : TableId) (sizes : SizesView) (rows : List (List Kind)) (workers : List WorkerView) (crew : IsCrew key sizes rows workers) where
   -- there are as many workers as rows
   pub crew_long : length workers ≡ length rows
@@ -123,9 +130,10 @@ module _ (key : TableId) (sizes : SizesView) (rows : List (List Kind)) (workers 
       let number = numbered_at (λ (v : WorkerView). v.thread) workers (length rows) t w crew.threads h inside at in
       record { row = z.0; at_row = z.2; new = subst (IsNew key sizes z.0) same z.4; thread = number; row_is = ap (λ n. get_or rows n []) number ∙ z.2 [] }
 
-  -- the workers of a plan are ready for its rows
-  pub ready : IsPlan rows → All (IsReadyIn key rows) workers
-  ready plan k d h =
+  -- the workers of a plan are ready for its rows, if each has its ends and these serve
+  pub ready : IsPlan rows → (serves : Option TableId → Type 0) (ends : EndsView) → serves ends.tail × serves ends.head
+      → AllZip (HasItsEnds ends) rows workers → All (IsReadyIn serves key rows) workers
+  ready plan serves ends serve served k d h =
       let w = get_or workers k d in
       let long = crew_long in
       let inside : k < length rows = omega (arith, h, long) in
@@ -143,6 +151,11 @@ module _ (key : TableId) (sizes : SizesView) (rows : List (List Kind)) (workers 
           of_key = ap (λ (v : PassView). v.key) new.pass;
           enough = omega (arith, left, size);
           room = omega (arith, asked, size, short, row);
+          served =
+              (let z = zip_at (HasItsEnds ends) rows workers k served inside in
+              let own : HasItsEnds ends (row_of rows w) w = subst (HasItsEnds ends (row_of rows w)) (sym (z.3 d))
+              (subst (λ (r : List Kind). HasItsEnds ends r z.1) (sym (z.2 []) ∙ p.at_row [] ∙ sym p.row_is) z.4) in
+              λ i e below. subst serves (sym (own i e below)) (both_serve serves ends serve (get_or (row_of rows w) i e)));
         };
       }
 
@@ -200,6 +213,7 @@ module _ (key : TableId) (sizes : SizesView) (rows : List (List Kind)) (workers 
 
       pub fault_is : (initial : List ℕ) (g : RunFault) → f ≡ g → IsWithinLimits sizes.ring sizes.tries → IsFaultOfRun may initial rows sizes g
       fault_is initial Limit e within = absurd (subst (λ (x : RunFault). IsFaultOfWorker x a) e is)
+      fault_is initial Roles e within = absurd (subst (λ (x : RunFault). IsFaultOfWorker x a) e is)
       fault_is initial Memory e within = within
       fault_is initial (Stalled t) e within =
           let own = subst (λ (x : RunFault). IsFaultOfWorker x a) e is in

@@ -22,6 +22,7 @@ use Rattle.event_records.specs.declared.kind.Kind.TheVariants.{Enq, Deq}
 use Rattle.event_records.specs.declared.kind.Answer.{Answer}
 use Rattle.event_records.specs.declared.kind.Answer.TheVariants.{Taken, Not, Got, Empty}
 use Rattle.queue_interface.specs.Answers.{IsOfKind}
+use Rattle.stress_run.specs.Ends.{EndsView}
 use Rattle.stress_run.specs.Operations.{Completed, IsAsked, events_of}
 use Rattle.stress_run.specs.Workers.{WorkerView, Works, Stalls}
 use Rattle.history_merge.proofs.Lists.{All-left, All-right}
@@ -35,7 +36,7 @@ module _ (may : Question → Answer → Type 0) where
       → IsOfKind o.question.kind o.answer
       → may o.question o.answer
       → (u.thread ≡ w.thread) × (u.ring ≡ w.ring) × (u.asked ≡ w.asked + 1) × (u.sent ≡ w.sent ++ events_of o) × (u.stopped ≡ w.stopped)
-      × (u.capacity ≡ w.capacity) × (u.tries ≡ w.tries)
+      × (u.capacity ≡ w.capacity) × (u.tries ≡ w.tries) × (u.ends ≡ w.ends)
       → DrawsOne w.pass o.question.call p
       → (m : List Note) → DrawsOne (record p { noted = m }) o.ret u.pass
       → Works may (k ∷ []) w u
@@ -45,7 +46,7 @@ module _ (may : Question → Answer → Type 0) where
       let grown = ap length drawn ∙ length-append w.pass.drawn (o.question.call ∷ o.ret ∷ []) in
       let later = subst (All (λ t. t < o.ret)) d.drawn e.above in
       record {
-        same = record { thread = s.0; ring = s.1; capacity = s.5; tries = s.6; key = e.key ∙ d.key; share = omega (arith, grown, d.left, e.left) };
+        same = record { ends = s.7; thread = s.0; ring = s.1; capacity = s.5; tries = s.6; key = e.key ∙ d.key; share = omega (arith, grown, d.left, e.left) };
         running = s.4;
         asked = s.2;
         left = omega (arith, d.left, e.left);
@@ -87,7 +88,7 @@ of_kind q a h = of_kind_called q.kind (value_name q.thread q.number) a h
 stalls_after : (k : Kind) (w u : WorkerView) (q : Question) (ret : ℕ) (p : PassView)
     → (q.thread ≡ w.thread) × (q.number ≡ w.asked) × (q.kind ≡ k)
     → (u.thread ≡ w.thread) × (u.ring ≡ w.ring) × (u.sent ≡ w.sent ++ call_event q ∷ []) × (u.stopped ≡ true) × (u.asked ≡ w.asked + 1)
-    × (u.capacity ≡ w.capacity) × (u.tries ≡ w.tries)
+    × (u.capacity ≡ w.capacity) × (u.tries ≡ w.tries) × (u.ends ≡ w.ends)
     → u.capacity ≤ length u.sent
     → w.stopped ≡ false
     → DrawsOne w.pass q.call p
@@ -97,7 +98,7 @@ stalls_after k w u q ret p asked s filled ran d m e =
     let first = ap length d.drawn ∙ length-append w.pass.drawn (q.call ∷ []) in
     let second = ap length e.drawn ∙ length-append p.drawn (ret ∷ []) in
     record {
-      same = record { thread = s.0; ring = s.1; capacity = s.5; tries = s.6; key = e.key ∙ d.key; share = omega (arith, first, second, d.left, e.left) };
+      same = record { ends = s.7; thread = s.0; ring = s.1; capacity = s.5; tries = s.6; key = e.key ∙ d.key; share = omega (arith, first, second, d.left, e.left) };
       stopped = s.3;
       filled = filled;
       sent = inr (q, asked.0, asked.1, asked.2, s.2);
@@ -109,7 +110,7 @@ stalls_after k w u q ret p asked s filled ran d m e =
 -- a worker that was stopped before and is unchanged stalls
 pub stalls_still : (k : Kind) (w : WorkerView) → w.stopped ≡ true → w.capacity ≤ length w.sent → Stalls k w w
 stalls_still k w stopped filled = record {
-  same = record { thread = refl; ring = refl; capacity = refl; tries = refl; key = refl; share = refl };
+  same = record { ends = refl; thread = refl; ring = refl; capacity = refl; tries = refl; key = refl; share = refl };
   stopped = stopped;
   filled = filled;
   sent = inl refl;
@@ -126,7 +127,7 @@ stalls_at_call k w b u p ticket asked opened ran draws counted ended filled =
     let one = subst (λ (x : WorkerView). asked ≡ x.asked + 1) opened counted in
     let grown = ap length d.drawn ∙ length-append w.pass.drawn (ticket ∷ []) in
     subst (Stalls k w) (sym (ended ∙ ap (λ (x : WorkerView). record x { pass = p; asked = asked; stopped = true }) opened)) (record {
-      same = record { thread = refl; ring = refl; capacity = refl; tries = refl; key = d.key; share = omega (arith, grown, d.left) };
+      same = record { ends = refl; thread = refl; ring = refl; capacity = refl; tries = refl; key = d.key; share = omega (arith, grown, d.left) };
       stopped = refl;
       filled = subst (λ (x : WorkerView). x.capacity ≤ length x.sent) opened filled;
       sent = inl refl;
@@ -182,6 +183,15 @@ called_by p n e w = record w { pass = p; asked = n; sent = w.sent ++ e ∷ [] }
 abbrev stopped_by : PassView → WorkerView → WorkerView
 stopped_by p w = record w { pass = p; stopped = true }
 
+-- the queue left the worker's ends as they were
+pub sent_with : (b v u : WorkerView) (p : PassView) (e : Event) (ends : EndsView) → b ≡ v → ends ≡ b.ends
+    → u ≡ record b { pass = p; sent = b.sent ++ e ∷ []; ends = ends } → u ≡ sent_by p e b
+sent_with b v u p e ends opened same ended = ended ∙ ap (λ (x : EndsView). record b { pass = p; sent = b.sent ++ e ∷ []; ends = x }) same
+
+pub stopped_with : (b v u : WorkerView) (p : PassView) (ends : EndsView) → b ≡ v → ends ≡ b.ends → u ≡ record b { pass = p; stopped = true; ends = ends }
+    → u ≡ stopped_by p b
+stopped_with b v u p ends opened same ended = ended ∙ ap (λ (x : EndsView). record b { pass = p; stopped = true; ends = x }) same
+
 -- a worker opened at `b`, with the namer `n`: it draws, asks and sends the call, so that it is at `v`; reopened there
 -- it draws again
 module _ (k : Kind) (w b v b' u : WorkerView) (n : NamerView) (asked : ℕ) (d : DrawnView) (p r : PassView) (q : Question) (call returned : Event) (m : List Note)
@@ -233,6 +243,7 @@ module _ (k : Kind) (w b v b' u : WorkerView) (n : NamerView) (asked : ℕ) (d :
         ap (λ x. x.stopped) is,
         ap (λ x. x.capacity) is,
         ap (λ x. x.tries) is,
+        ap (λ x. x.ends) is,
       )
       first_draw m (subst (DrawsOne (record p { noted = m }) returned.ticket) (sym (ap (λ x. x.pass) is)) second_draw)
 
@@ -277,6 +288,7 @@ module _ (k : Kind) (w b v b' u : WorkerView) (n : NamerView) (asked : ℕ) (d :
         ap (λ x. x.asked) is,
         ap (λ x. x.capacity) is,
         ap (λ x. x.tries) is,
+        ap (λ x. x.ends) is,
       )
       (subst (λ x. x.capacity ≤ length x.sent) (sym is) full)
       ran first_draw m (subst (DrawsOne (record p { noted = m }) returned.ticket) (sym (ap (λ x. x.pass) is)) second_draw)

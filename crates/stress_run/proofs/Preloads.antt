@@ -12,7 +12,7 @@ use Rattle.stress_run.specs.Crew.{SizesView}
 use Rattle.stress_run.specs.Failed.{IsFaultOfRun}
 use Rattle.stress_run.specs.Faults.{IsWithinLimits}
 use Rattle.stress_run.specs.declared.faults.RunFault.{RunFault}
-use Rattle.stress_run.specs.declared.faults.RunFault.TheVariants.{Limit, Memory, Stalled, CloseLost, Uncertified, Preload}
+use Rattle.stress_run.specs.declared.faults.RunFault.TheVariants.{Limit, Roles, Memory, Stalled, CloseLost, Uncertified, Preload}
 
 -- one more value was enqueued
 pub one_more_taken : (may_preload : ℕ → ℕ → Bool → Type 0) (values : List ℕ) (count : ℕ) → AreTakenBefore may_preload values count
@@ -35,6 +35,7 @@ module _ (may : Question → Answer → Type 0) (initial : List ℕ) (rows : Lis
   -- its fault is one of a run from these initial values
   within_from : (fault : RunFault) → IsWithinLimits sizes.ring sizes.tries → IsFaultOfRun may [] rows sizes fault → IsFaultOfRun may initial rows sizes fault
   within_from Limit within is = absurd (is (within, no_names))
+  within_from Roles within is = is
   within_from Memory within is = is
   within_from (Stalled t) within is = is
   within_from (CloseLost t) within is = is

@@ -10,7 +10,7 @@ use Rattle.stress_run.specs.Crew.{SizesView, IsCrew, IsFaultOfWorker, IsNotAfter
 use Rattle.stress_run.specs.Faults.{IsWithinLimits}
 use Rattle.stress_run.specs.Workers.{WorkerView, WorksIn}
 use Rattle.stress_run.specs.declared.faults.RunFault.{RunFault}
-use Rattle.stress_run.specs.declared.faults.RunFault.TheVariants.{Limit, Memory, Stalled, CloseLost, Uncertified, Preload}
+use Rattle.stress_run.specs.declared.faults.RunFault.TheVariants.{Limit, Roles, Memory, Stalled, CloseLost, Uncertified, Preload}
 
 -- new workers made these rows, or stalled; the fault is one of theirs, and no stall of theirs counts before it
 pub record IsFaultAfter (may : Question → Answer → Type 0) (rows : List (List Kind)) (sizes : SizesView) (fault : RunFault) : Type 0 where
@@ -28,11 +28,12 @@ pub record IsFaultAfter (may : Question → Answer → Type 0) (rows : List (Lis
 abbrev pub Overflows : List (List Kind) → SizesView → ℕ → Type 0
 Overflows rows sizes thread = sizes.ring < 2 * length (slice_index_or rows thread [])
 
--- a fault that a run may report, on a queue that holds these values at first: `Limit` if its sizes are out of range or
--- the values may not be initial ones, `Memory`, a fault of a worker of the plan after its row, or the place of one of
--- the values. A row stalls only if it has more events than its ring has room for
+-- a fault that a run may report on a queue that can run any plan and holds these values at first: `Limit` if its sizes
+-- are out of range or the values may not be initial ones, `Memory`, a fault of a worker of the plan after its row, or
+-- the place of one of the values. A row stalls only if it has more events than its ring has room for
 abbrev pub IsFaultOfRun : (Question → Answer → Type 0) → List ℕ → List (List Kind) → SizesView → RunFault → Type 0
 IsFaultOfRun may initial rows sizes Limit = ¬ (IsWithinLimits sizes.ring sizes.tries × AreInitialNames initial)
+IsFaultOfRun may initial rows sizes Roles = ⊥
 IsFaultOfRun may initial rows sizes Memory = IsWithinLimits sizes.ring sizes.tries
 IsFaultOfRun may initial rows sizes (Stalled t) = (t < length rows) × Overflows rows sizes t × IsFaultAfter may rows sizes (Stalled t)
 IsFaultOfRun may initial rows sizes (CloseLost t) = (t < length rows) × IsFaultAfter may rows sizes (CloseLost t)

@@ -6,7 +6,7 @@ use Rattle.stress_run.specs.declared.TheConstants.{MAX_TRIES}
 use Rattle.collector.specs.declared.rounds.CollectError.{CollectError}
 use Rattle.collector.specs.declared.rounds.CollectError.TheVariants.{Memory as OfMemory, Uncertified as OfToken}
 use Rattle.stress_run.specs.declared.faults.RunFault.{RunFault}
-use Rattle.stress_run.specs.declared.faults.RunFault.TheVariants.{Limit, Memory, Stalled, CloseLost, Uncertified, Preload}
+use Rattle.stress_run.specs.declared.faults.RunFault.TheVariants.{Limit, Roles, Memory, Stalled, CloseLost, Uncertified, Preload}
 
 -- the printed name of a fault
 abbrev pub name_of : RunFault → List ℕ
@@ -15,20 +15,23 @@ name_of (CloseLost t) = codes "CloseLost"
 name_of (Uncertified t) = codes "Uncertified"
 name_of (Preload place) = codes "Preload"
 name_of Limit = codes "Limit"
+name_of Roles = codes "Roles"
 name_of Memory = codes "Memory"
 
 -- the number of a fault in the order of faults
 abbrev pub number_of : RunFault → ℕ
 number_of Limit = 1
-number_of Memory = 2
-number_of (Stalled t) = 3
-number_of (CloseLost t) = 4
-number_of (Uncertified t) = 5
-number_of (Preload place) = 6
+number_of Roles = 2
+number_of Memory = 3
+number_of (Stalled t) = 4
+number_of (CloseLost t) = 5
+number_of (Uncertified t) = 6
+number_of (Preload place) = 7
 
 -- the thread that a fault names, or the place of an initial value; none if it names neither
 abbrev pub place_in : RunFault → Option ℕ
 place_in Limit = None
+place_in Roles = None
 place_in Memory = None
 place_in (Stalled t) = Some t
 place_in (CloseLost t) = Some t

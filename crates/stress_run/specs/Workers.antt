@@ -7,12 +7,15 @@ use Rattle.event_records.specs.declared.kind.Kind.{Kind}
 use Rattle.event_records.specs.declared.kind.Answer.{Answer}
 use Rattle.event_records.specs.declared.event.Event.{Event}
 use Rattle.event_rings.specs.Ring.{RingName}
+use Rattle.stress_run.specs.Ends.{EndsView}
 use Rattle.stress_run.specs.Operations.{Operates, tickets_of}
 
--- the pass, the thread, the number of questions that were asked, the ring, the number of events that it has room for,
--- the number of tries of a push, all events that were pushed, and whether the worker is stopped
+-- the pass, the ends of the queue that the worker has for itself, the thread, the number of questions that were asked,
+-- the ring, the number of events that it has room for, the number of tries of a push, all events that were pushed, and
+-- whether the worker is stopped
 pub record WorkerView : Type 0 where
   pub pass : PassView
+  pub ends : EndsView
   pub thread : ℕ
   pub asked : ℕ
   pub ring : RingName
@@ -21,8 +24,9 @@ pub record WorkerView : Type 0 where
   pub sent : List Event
   pub stopped : Bool
 
--- both have the same thread, ring and number of tries, and passes of one ticket word with the same share
+-- both have the same ends, thread, ring and number of tries, and passes of one ticket word with the same share
 pub record SameWorker (w w' : WorkerView) : Type 0 where
+  pub ends : w'.ends ≡ w.ends
   pub thread : w'.thread ≡ w.thread
   pub ring : w'.ring ≡ w.ring
   pub capacity : w'.capacity ≡ w.capacity

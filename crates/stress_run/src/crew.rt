@@ -24,8 +24,7 @@ fn make_all<Q: Asked>(
     kinds: &[Kind],
     is_abandoned: &AtomicBool,
 ) -> Result<(), WorkerFault>
-    requires ready { IsReady tickets.now.key kinds.now worker.old }
-    requires word { Q.of_word queue.now tickets.now }
+    requires ready { IsReady (Q.serves queue.now tickets.now) tickets.now.key kinds.now worker.old }
     ensures works { OnOk result (Works (Q.may queue.now) kinds.now worker.old worker.new) }
     ensures stays { WorksOrStalls (Q.may queue.now) kinds.now worker.old worker.new }
     ensures told { KeepsNotes (Q.notes queue.now) worker.old worker.new }
@@ -44,8 +43,7 @@ fn work<Q: Asked>(
     kinds: &[Kind],
     is_abandoned: &AtomicBool,
 ) -> Worker
-    requires ready { IsReady tickets.now.key kinds.now worker }
-    requires word { Q.of_word queue.now tickets.now }
+    requires ready { IsReady (Q.serves queue.now tickets.now) tickets.now.key kinds.now worker }
     ensures works { WorksOrStalls (Q.may queue.now) kinds.now worker result }
     ensures told { KeepsNotes (Q.notes queue.now) worker result }
 {
@@ -63,8 +61,7 @@ fn work_row<Q: Asked>(
     worker: Worker,
     is_abandoned: &AtomicBool,
 ) -> Worker
-    requires ready { IsReadyIn tickets.now.key rows.now worker }
-    requires word { Q.of_word queue.now tickets.now }
+    requires ready { IsReadyIn (Q.serves queue.now tickets.now) tickets.now.key rows.now worker }
     ensures works { WorksIn (Q.may queue.now) rows.now worker result }
     ensures told { KeepsNotes (Q.notes queue.now) worker result }
 {
@@ -83,14 +80,13 @@ pub(crate) fn work_all<Q: Asked + Sync, R: Threads + Sync>(
     workers: Vec<Worker>,
     is_abandoned: &AtomicBool,
 ) -> Result<Vec<Worker>, AllocError>
-    requires ready { All (IsReadyIn tickets.now.key rows.now) workers.items }
-    requires word { Q.of_word queue.now tickets.now }
+    requires ready { All (IsReadyIn (Q.serves queue.now tickets.now) tickets.now.key rows.now) workers.items }
     ensures worked { IfOk result (λ after. AllZip (WorksIn (Q.may queue.now) rows.now) workers.items after.items) }
     ensures told { IfOk result (λ after. AllZip (KeepsNotes (Q.notes queue.now)) workers.items after.items) }
 {
     let start = Start::new(workers.len());
     let on_row = |worker: Worker| -> Worker
-        requires { IsReadyIn tickets.now.key rows.now worker × Q.of_word queue.now tickets.now }
+        requires { IsReadyIn (Q.serves queue.now tickets.now) tickets.now.key rows.now worker }
         ensures works { WorksIn (Q.may queue.entry.now) rows.entry.now worker result }
         ensures told { KeepsNotes (Q.notes queue.entry.now) worker result }
     {

@@ -17,6 +17,8 @@ pub enum RunFault {
     /// The capacity of the rings or the number of tries is out of range, or a queue may not hold these values before a
     /// run. No thread was started.
     Limit,
+    /// The queue has one producer and one consumer, and the plan has more. No thread was started.
+    Roles,
     /// Out of memory, perhaps in the collector while the workers ran.
     Memory,
     /// A push of this thread found no room in all its tries.
@@ -42,6 +44,7 @@ impl RunFault {
             RunFault::Uncertified(_) => "Uncertified",
             RunFault::Preload(_) => "Preload",
             RunFault::Limit => "Limit",
+            RunFault::Roles => "Roles",
             RunFault::Memory => "Memory",
         }
     }
@@ -51,7 +54,7 @@ impl RunFault {
         ensures { result ≡ place_in self }
     {
         match self {
-            RunFault::Limit | RunFault::Memory => None,
+            RunFault::Limit | RunFault::Roles | RunFault::Memory => None,
             RunFault::Stalled(thread)
             | RunFault::CloseLost(thread)
             | RunFault::Uncertified(thread) => Some(u64::from(thread)),
@@ -65,11 +68,12 @@ impl RunFault {
     {
         match self {
             RunFault::Limit => 1,
-            RunFault::Memory => 2,
-            RunFault::Stalled(_) => 3,
-            RunFault::CloseLost(_) => 4,
-            RunFault::Uncertified(_) => 5,
-            RunFault::Preload(_) => 6,
+            RunFault::Roles => 2,
+            RunFault::Memory => 3,
+            RunFault::Stalled(_) => 4,
+            RunFault::CloseLost(_) => 5,
+            RunFault::Uncertified(_) => 6,
+            RunFault::Preload(_) => 7,
         }
     }
 

@@ -10,11 +10,14 @@
 mod asked;
 mod closing;
 mod crew;
+mod ends;
 mod faults;
 mod lock_free;
 mod making;
 mod proved;
 mod proving;
+mod ring;
+mod roles;
 mod runs;
 mod start;
 mod two_locks;

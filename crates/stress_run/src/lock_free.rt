@@ -1,5 +1,6 @@
 // The proved queue without a lock: a row of nodes beside the ticket word, which all workers share.
 use crate::asked::Asked;
+use crate::ends::Ends;
 use event_records::{AnsweredDeq, AnsweredEnq, AskDeq, AskEnq};
 use tickets::{Pass, Tickets};
 
@@ -15,9 +16,15 @@ impl Asked for LockFree {
 
     ghost notes = { λ _. true };
 
-    ghost of_word = { λ _ tickets. tickets.shared ≡ true };
+    ghost serves = { λ _ tickets _. tickets.shared ≡ true };
 
-    fn enqueue(&self, ask: AskEnq, pass: &mut Pass, tickets: &Tickets) -> AnsweredEnq {
+    fn enqueue(
+        &self,
+        _ends: &mut Ends,
+        ask: AskEnq,
+        pass: &mut Pass,
+        tickets: &Tickets,
+    ) -> AnsweredEnq {
         if pass.push(tickets, ask.call(), ask.value()) {
             ask.taken()
         } else {
@@ -25,7 +32,13 @@ impl Asked for LockFree {
         }
     }
 
-    fn dequeue(&self, ask: AskDeq, pass: &mut Pass, tickets: &Tickets) -> AnsweredDeq {
+    fn dequeue(
+        &self,
+        _ends: &mut Ends,
+        ask: AskDeq,
+        pass: &mut Pass,
+        tickets: &Tickets,
+    ) -> AnsweredDeq {
         match pass.pop(tickets, ask.call()) {
             Some(value) => ask.got(value),
             None => ask.empty(),

@@ -15,6 +15,7 @@ ghost use Rattle.stress_run.specs.Operations.{IsRun};
 ghost use Rattle.stress_run.specs.declared.faults.RunFault.TheVariants.{Limit, Memory, Preload};
 ghost use Rattle.tickets.specs.Views.{fresh_pass};
 
+use crate::ends::Ends;
 use crate::faults::RunFault;
 use crate::lock_free::LockFree;
 use crate::making::Sizes;
@@ -44,6 +45,16 @@ pub enum ProvedQueue {
     /// dequeued, and exchanges the count of dequeued values for the next number. A call whose exchange fails goes on
     /// from what it found, so it waits for nobody.
     LockFree,
+    /// The bounded ring without a lock of Lamport (1983, "Specifying concurrent program modules"), for one producer and
+    /// one consumer. It has `RING_PLACES` places, or as many as there are initial values if these are more, which are
+    /// used again and again.
+    ///
+    /// The producer alone writes values and the count of enqueued ones, the consumer alone that of dequeued ones. So
+    /// neither takes a lock: each knows its own count, and what it reads of the other's stays true, since counts only
+    /// grow. An enqueue first reads the count of dequeued values: it fails if the ring is full, or else writes its
+    /// value and counts it. A dequeue first reads the count of enqueued values: it finds the queue empty if all were
+    /// dequeued, or else reads the value and counts it.
+    Ring,
 }
 
 // Copies these values into a list.
@@ -80,7 +91,16 @@ fn run_named<J: OfRun + Send + Sync, R: Threads + Wait + Sync>(
     let (tickets, pass, log) = named;
     let list = listed(alloc, initial.as_slice())?;
     let session: Session<'_, J, R> = Session::new(rt, list, log);
-    let (lists, pass) = run_on(rt, alloc, &session, &tickets, pass, plan, sizes)?;
+    let (lists, pass) = run_on(
+        rt,
+        alloc,
+        &session,
+        &tickets,
+        pass,
+        Ends::none(),
+        plan,
+        sizes,
+    )?;
     let log = session.into_log();
     let total = tickets.close_with_log(pass, log);
     Ok(Recorded {
@@ -112,7 +132,7 @@ fn run_between<J: OfRun + Send + Sync, R: Threads + Wait + Sync>(
 {
     let (tickets, pass, tail, head) = named;
     let queue: TwoLocks<'_, J, R> = TwoLocks::new(rt, tail, head);
-    let (lists, pass) = run_on(rt, alloc, &queue, &tickets, pass, plan, sizes)?;
+    let (lists, pass) = run_on(rt, alloc, &queue, &tickets, pass, Ends::none(), plan, sizes)?;
     let total = tickets.close_with_nodes(pass, queue.into_head());
     Ok(Recorded {
         initial,
@@ -179,7 +199,16 @@ fn run_lock_free<R: Threads + Sync>(
         initial.as_slice(),
         room,
     )?;
-    let (lists, pass) = run_on(rt, alloc, &LockFree, &tickets, pass, plan, sizes)?;
+    let (lists, pass) = run_on(
+        rt,
+        alloc,
+        &LockFree,
+        &tickets,
+        pass,
+        Ends::none(),
+        plan,
+        sizes,
+    )?;
     let total = tickets.close_with_shared_nodes(pass);
     Ok(Recorded {
         initial,
@@ -206,6 +235,7 @@ fn run_held<R: Threads + Wait + Sync>(
         ProvedQueue::OneLock => run_one_lock(rt, alloc, initial, plan, sizes),
         ProvedQueue::TwoLocks => run_two_locks(rt, alloc, initial, plan, sizes),
         ProvedQueue::LockFree => run_lock_free(rt, alloc, initial, plan, sizes),
+        ProvedQueue::Ring => Err(RunFault::Memory),
     }
 }
 

@@ -9,10 +9,12 @@ ghost use Rattle.history_merge.specs.Merge.{IsMerged};
 ghost use Rattle.recorder_core.specs.Initial.{AreInitialNames};
 ghost use Rattle.recorder_core.specs.Replay.{AreRecorded, Replays};
 ghost use Rattle.stress_run.specs.Crew.{token_of};
+ghost use Rattle.stress_run.specs.Ends.{no_ends};
 ghost use Rattle.stress_run.specs.Failed.{IsFaultOfRun};
 ghost use Rattle.stress_run.specs.Faults.{IsWithinLimits};
 ghost use Rattle.stress_run.specs.Operations.{IsRun};
 ghost use Rattle.stress_run.specs.Preloaded.{AreTaken, IsFirstRefused};
+ghost use Rattle.stress_run.specs.Roles.{HasOneOfEach};
 ghost use Rattle.stress_run.specs.Workers.{WorksIn};
 ghost use Rattle.stress_run.specs.Inner.Crew.{AreSealed, IsFaultOfClosing};
 ghost use Rattle.stress_run.specs.Inner.Refusals.{IsRefusal};
@@ -24,6 +26,7 @@ ghost use Rattle.tickets.specs.Views.{fresh_pass, numbers_below, share_of};
 use crate::asked::Asked;
 use crate::closing::close_all;
 use crate::crew::work_all;
+use crate::ends::Ends;
 use crate::faults::RunFault;
 use crate::making::{Crew, Sizes, make_crew};
 use crate::worker::Worker;
@@ -166,7 +169,7 @@ pub fn run<R: Threads + Sync>(
 /// - `Stalled`: a push found no room in all its tries, between which the thread yields for longer and longer. It never
 ///   comes for a row whose events all have room in its ring.
 /// - `CloseLost`: a worker's ring gave no token after its row.
-/// - `Uncertified` never comes.
+/// - `Uncertified` and `Roles` never come.
 ///
 /// The rings are closed whatever fault stands, unless the workers themselves were lost for lack of memory.
 ///
@@ -260,7 +263,7 @@ fn run_within<R: Threads + Sync>(
     ensures fault { IfErr result (IsFaultOfRun (may queue.now) [] plan.now sizes) }
 {
     let (tickets, pass) = Tickets::new(alloc, 2 * plan.operations())?;
-    let (lists, pass) = run_on(rt, alloc, &queue, &tickets, pass, plan, sizes)?;
+    let (lists, pass) = run_on(rt, alloc, &queue, &tickets, pass, Ends::none(), plan, sizes)?;
     let total = tickets.close(pass);
     Ok(Recorded {
         initial,
@@ -269,19 +272,22 @@ fn run_within<R: Threads + Sync>(
     })
 }
 
-// Runs a plan on the queue that the workers call, and returns the lists of events and the joined pass.
+// Runs a plan on the queue that the workers call, and returns the lists of events and the joined pass. The workers get
+// the ends of the queue that their rows need.
 pub(crate) fn run_on<Q: Asked + Sync, R: Threads + Sync>(
     rt: &R,
     alloc: Global,
     queue: &Q,
     tickets: &Tickets,
     pass: Pass,
+    own: Ends,
     plan: &Plan,
     sizes: Sizes,
 ) -> Result<(Lists, Pass), RunFault>
     requires sizes { IsWithinLimits sizes.ring sizes.tries }
     requires pass { pass ≡ fresh_pass tickets.now.key (2 * sum_by length plan.now) }
-    requires word { Q.of_word queue.now tickets.now }
+    requires serves { Q.serves queue.now tickets.now own.tail × Q.serves queue.now tickets.now own.head }
+    requires roles { (own ≡ no_ends) ⊎ HasOneOfEach plan.now }
     ensures key { IfOk result (λ r. r.1.key ≡ tickets.now.key) }
     ensures whole { IfOk result (λ r. share_of r.1 ≡ 2 * sum_by length plan.now) }
     ensures recorded { IfOk result (λ r. (total : ℕ) → r.1.drawn ≡ numbers_below total → IsRun (Q.may queue.now) plan.now r.0 total) }
@@ -294,7 +300,7 @@ pub(crate) fn run_on<Q: Asked + Sync, R: Threads + Sync>(
         rest,
         workers,
         ends,
-    } = make_crew(alloc, tickets, pass, rows, sizes)?;
+    } = make_crew(alloc, tickets, pass, own, rows, sizes)?;
     let collector = Collector::with_room(alloc, ends, most_events(rows))?;
     let (workers, collector) = work_and_collect(
         rt, queue, tickets, rows, workers, collector, sizes,
@@ -339,8 +345,7 @@ fn work_and_collect<Q: Asked + Sync, R: Threads + Sync>(
     collector: Collector,
     sizes: Sizes,
 ) -> Result<(Vec<Worker>, Collector), AllocError>
-    requires ready { All (IsReadyIn tickets.now.key rows.now) workers.items }
-    requires word { Q.of_word queue.now tickets.now }
+    requires ready { All (IsReadyIn (Q.serves queue.now tickets.now) tickets.now.key rows.now) workers.items }
     ensures worked { IfOk result (λ r. AllZip (WorksIn (Q.may queue.now) rows.now) workers.items r.0.items) }
     ensures told { IfOk result (λ r. AllZip (KeepsNotes (Q.notes queue.now)) workers.items r.0.items) }
     ensures rings { IfOk result (λ r. rings_of r.1.rings ≡ rings_of collector.rings) }
@@ -350,7 +355,7 @@ fn work_and_collect<Q: Asked + Sync, R: Threads + Sync>(
     let abandoned = AtomicBool::new(false);
     let is_abandoned = &abandoned;
     let working = move || -> Result<Vec<Worker>, AllocError>
-        requires { All (IsReadyIn tickets.now.key rows.now) workers.items × Q.of_word queue.now tickets.now }
+        requires { All (IsReadyIn (Q.serves queue.now tickets.now) tickets.now.key rows.now) workers.items }
         ensures worked { IfOk result (λ after. AllZip (WorksIn (Q.may queue.entry.now) rows.entry.now) workers.items after.items) }
         ensures told { IfOk result (λ after. AllZip (KeepsNotes (Q.notes queue.entry.now)) workers.items after.items) }
     {

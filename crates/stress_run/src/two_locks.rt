@@ -5,6 +5,7 @@ ghost use Rattle.queue_interface.specs.Answers.{AnswersInKind};
 ghost use Rattle.stress_run.specs.Noted.{NotesOne};
 
 use crate::asked::Asked;
+use crate::ends::Ends;
 use crate::proved::OfRun;
 use event_records::{AnsweredDeq, AnsweredEnq, AskDeq, AskEnq};
 use std::marker::PhantomData;
@@ -123,13 +124,25 @@ impl<'r, J: OfRun + Send + Sync, R: Wait> Asked for TwoLocks<'r, J, R> {
 
     ghost notes = { λ _. true };
 
-    ghost of_word = { λ _ tickets. tickets.key ≡ J.word };
+    ghost serves = { λ _ tickets _. tickets.key ≡ J.word };
 
-    fn enqueue(&self, ask: AskEnq, pass: &mut Pass, tickets: &Tickets) -> AnsweredEnq {
+    fn enqueue(
+        &self,
+        _ends: &mut Ends,
+        ask: AskEnq,
+        pass: &mut Pass,
+        tickets: &Tickets,
+    ) -> AnsweredEnq {
         self.tail.lock(self.rt).enqueue(ask, pass, tickets)
     }
 
-    fn dequeue(&self, ask: AskDeq, pass: &mut Pass, tickets: &Tickets) -> AnsweredDeq {
+    fn dequeue(
+        &self,
+        _ends: &mut Ends,
+        ask: AskDeq,
+        pass: &mut Pass,
+        tickets: &Tickets,
+    ) -> AnsweredDeq {
         self.head.lock(self.rt).dequeue(ask, pass, tickets)
     }
 }

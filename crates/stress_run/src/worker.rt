@@ -3,12 +3,14 @@ ghost use Rattle.std.specs.Prelude.{◌≡◌, ◌+◌, ◌∷◌, ◌++◌, [],
 ghost use Rattle.event_records.specs.Question.{call_event, next_question};
 ghost use Rattle.event_records.specs.declared.limits.TheConstants.{NAMES_OF_A_THREAD};
 ghost use Rattle.stress_run.specs.Crew.{token_of};
+ghost use Rattle.stress_run.specs.Ends.{EndsView, end_for, no_ends};
 ghost use Rattle.stress_run.specs.Faults.{AreTries};
 ghost use Rattle.stress_run.specs.Noted.{KeepsNotes};
-ghost use Rattle.stress_run.specs.Inner.Workers.{IsStamped, question_in};
+ghost use Rattle.stress_run.specs.Inner.Workers.{IsStamped, end_asked, question_in};
 ghost use Rattle.stress_run.specs.Workers.{Works, Stalls};
 
 use crate::asked::Asked;
+use crate::ends::Ends;
 use event_records::{AskDeq, AskEnq, Kind, Namer, Noted};
 use event_rings::{CloseLost, CloseToken, PushEnd};
 use queue_interface::TestQueue;
@@ -20,11 +22,13 @@ use tickets::{Drawn, Pass, Tickets};
 
 /// The tools with which one thread records: its pass, its namer, and the push end of its ring.
 ///
-/// Contracts see the pass, the thread, the number of questions that were asked, the ring with its capacity, the number
-/// of tries of a push, all events that were pushed, and whether the worker is stopped.
+/// Contracts see the pass, the ends of the queue that the worker has for itself, the thread, the number of questions
+/// that were asked, the ring with its capacity, the number of tries of a push, all events that were pushed, and whether
+/// the worker is stopped.
 #[derive(Drop)]
 pub struct Worker {
     pass: Pass,
+    ends: Ends,
     namer: Namer,
     ring: PushEnd,
     tries: u32,
@@ -41,6 +45,7 @@ impl Model for Worker {
     ghost view = { λ w. record {
       thread = w.ring.thread;
       pass = w.pass;
+      ends = w.ends;
       asked = w.namer.asked;
       ring = w.ring.ring;
       capacity = w.ring.capacity;
@@ -111,13 +116,14 @@ fn push_with_tries(
 }
 
 impl Worker {
-    /// Makes a worker that is not stopped. The namer and the ring belong to one thread, and there are 1 to 10,000,000
-    /// tries.
+    /// Makes a worker that is not stopped and has no end of a queue for itself. The namer and the ring belong to one
+    /// thread, and there are 1 to 10,000,000 tries.
     pub fn new(pass: Pass, namer: Namer, ring: PushEnd, tries: u32) -> Worker
         requires thread { namer.thread ≡ ring.thread }
         requires tries { AreTries tries }
         ensures { result ≡ record {
           pass = pass;
+          ends = no_ends;
           thread = ring.thread;
           asked = namer.asked;
           ring = ring.ring;
@@ -129,11 +135,21 @@ impl Worker {
     {
         Worker {
             pass,
+            ends: Ends::none(),
             namer,
             ring,
             tries,
             stopped: false,
         }
+    }
+
+    // Returns the worker with these ends of a queue for itself.
+    pub(crate) fn with_ends(self, ends: Ends) -> Worker
+        ensures { result ≡ record self { ends = ends } }
+    {
+        let mut worker = self;
+        worker.ends = ends;
+        worker
     }
 
     /// Returns whether a push found no room in all its tries. A stopped worker makes no further operation.
@@ -166,6 +182,7 @@ impl Worker {
     {
         let Worker {
             pass,
+            ends: _,
             namer: _,
             ring,
             tries: _,
@@ -200,14 +217,14 @@ impl Worker {
         requires left { 2 ≤ self.old.pass.left }
         requires room { self.old.asked < NAMES_OF_A_THREAD }
         requires running { self.old.stopped ≡ false }
-        requires word { Q.of_word queue.now tickets.now }
+        requires serves { Q.serves queue.now tickets.now (end_for kind self.old.ends) }
         ensures works { OnOk result (Works (Q.may queue.now) (kind ∷ []) self.old self.new) }
         ensures told { OnOk result (KeepsNotes (Q.notes queue.now) self.old self.new) }
         ensures stalls { OnErr result (Stalls kind self.old self.new) }
     {
         let (ask, noted) = ask_next(&mut self.namer, kind, self.pass.draw(tickets));
         self.record(noted, is_abandoned)?;
-        let returned = stamped_answer(queue, ask, &mut self.pass, tickets);
+        let returned = stamped_answer(queue, ask, &mut self.ends, &mut self.pass, tickets);
         self.record(returned, is_abandoned)
     }
 }
@@ -216,6 +233,7 @@ impl Worker {
 fn ask_next(namer: &mut Namer, kind: Kind, drawn: Drawn) -> (AnyAsk, Noted)
     requires { namer.old.asked < NAMES_OF_A_THREAD }
     ensures question { question_in result.0 ≡ next_question namer.old kind drawn }
+    ensures end { (ends : EndsView) → end_asked result.0 ends ≡ end_for kind ends }
     ensures noted { result.1 ≡ call_event (question_in result.0) }
     ensures counted { namer.new ≡ record namer.old { asked = namer.old.asked + 1 } }
 {
@@ -232,20 +250,27 @@ fn ask_next(namer: &mut Namer, kind: Kind, drawn: Drawn) -> (AnyAsk, Noted)
 }
 
 // Has the queue answer the question, and returns the return event.
-fn stamped_answer<Q: Asked>(queue: &Q, ask: AnyAsk, pass: &mut Pass, tickets: &Tickets) -> Noted
+fn stamped_answer<Q: Asked>(
+    queue: &Q,
+    ask: AnyAsk,
+    ends: &mut Ends,
+    pass: &mut Pass,
+    tickets: &Tickets,
+) -> Noted
     requires key { (pass.old.key ≡ tickets.now.key) × ((question_in ask).key ≡ tickets.now.key) }
     requires drew { Contains pass.old.drawn (question_in ask).call }
     requires some_left { 0 < pass.old.left }
-    requires word { Q.of_word queue.now tickets.now }
-    ensures { IsStamped (Q.may queue.now) (Q.notes queue.now) (question_in ask) pass.old pass.new result }
+    requires serves { Q.serves queue.now tickets.now (end_asked ask ends.old) }
+    ensures ends { ends.new ≡ ends.old }
+    ensures stamped { IsStamped (Q.may queue.now) (Q.notes queue.now) (question_in ask) pass.old pass.new result }
 {
     match ask {
         AnyAsk::Enq(ask) => {
-            let taken = queue.enqueue(ask, pass, tickets);
+            let taken = queue.enqueue(ends, ask, pass, tickets);
             taken.stamp(pass, tickets)
         }
         AnyAsk::Deq(ask) => {
-            let got = queue.dequeue(ask, pass, tickets);
+            let got = queue.dequeue(ends, ask, pass, tickets);
             got.stamp(pass, tickets)
         }
     }
@@ -288,7 +313,7 @@ pub(crate) fn call_on<Q: Asked>(
     requires key { worker.old.pass.key ≡ tickets.now.key }
     requires left { 2 ≤ worker.old.pass.left }
     requires room { worker.old.asked < NAMES_OF_A_THREAD }
-    requires word { Q.of_word queue.now tickets.now }
+    requires serves { Q.serves queue.now tickets.now (end_for kind worker.old.ends) }
     ensures works { OnOk result (Works (Q.may queue.now) (kind ∷ []) worker.old worker.new) }
     ensures stalls { OnErr result (Stalls kind worker.old worker.new) }
     ensures running { OnOk result (worker.old.stopped ≡ false) }

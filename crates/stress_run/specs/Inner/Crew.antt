@@ -1,7 +1,9 @@
 -- The end of a run: rings are closed, passes are joined, and lists are sealed.
 use Rattle.std.specs.Prelude.{◌≡◌, ◌+◌, List, [], ◌++◌, map, All, sum_by, flat_map, IsPermutation, Contains, ◌⊎◌, Option, Some, None, false}
 use Rattle.tickets.specs.Views.{PassView}
+use Rattle.event_records.specs.declared.kind.Kind.{Kind}
 use Rattle.event_rings.specs.Ring.{DrainView, TokenView}
+use Rattle.stress_run.specs.Ends.{EndsView, end_for}
 use Rattle.stress_run.specs.Workers.{WorkerView}
 use Rattle.stress_run.specs.declared.faults.RunFault.{RunFault}
 use Rattle.stress_run.specs.declared.faults.RunFault.TheVariants.{Memory}
@@ -11,6 +13,10 @@ use Rattle.event_records.specs.declared.event.Event.{Event}
 -- the drain end of a worker's ring, from which nothing was drained
 abbrev pub end_of : WorkerView → DrainView
 end_of w = record { ring = w.ring; thread = w.thread; received = [] }
+
+-- the worker has those of these ends at which the operations of its row work
+abbrev pub HasItsEnds : EndsView → List Kind → WorkerView → Type 0
+HasItsEnds ends row w = All (λ kind. end_for kind w.ends ≡ end_for kind ends) row
 
 -- none of these workers is stopped, these are the close tokens of their rings, and their passes are joined to the rest
 pub record AreClosed (rest : PassView) (workers : List WorkerView) (tokens : List TokenView) (pass : PassView) : Type 0 where

@@ -5,7 +5,7 @@ use Rattle.stress_run.proofs.making.make_one.Goals as goal
 
 pub returns-clause-worker : goal.returns-clause-worker
 returns-clause-worker c =
-    let is = c.new-worker.ensures in (
+    let is = c.with_ends.ensures ∙ ap (λ (w : WorkerView). record w { ends = c.args.ends }) c.new-worker.ensures in (
       record {
         pass = search rules;
         capacity = search rules;

@@ -1,10 +1,12 @@
-use Rattle.std.proofs.Common.{◌*◌, List, [], length, map, sum_by, refl, ap, sym, subst, ◌∙◌}
+use Rattle.std.proofs.Common.{◌≡◌, ◌⊎◌, ◌*◌, List, [], length, map, sum_by, refl, ap, sym, subst, ◌∙◌}
 use Rattle.std.proofs.lemmas.Result.{IfOk-weaker, IfErr-weaker}
 use Rattle.tickets.specs.Views.{PassView, fresh_pass}
 use Rattle.event_records.specs.declared.kind.Kind.{Kind}
 use Rattle.collector.specs.Ends.{AreInOrder, AreFresh, rings_of}
 use Rattle.workloads.specs.Plans.{IsPlan}
+use Rattle.stress_run.specs.Ends.{no_ends}
 use Rattle.stress_run.specs.Operations.{IsRun}
+use Rattle.stress_run.specs.Roles.{HasOneOfEach}
 use Rattle.stress_run.specs.Inner.Crew.{AreClosed}
 use Rattle.stress_run.specs.Failed.{IsFaultOfRun}
 use Rattle.stress_run.specs.Crew.{token_of}
@@ -47,11 +49,14 @@ pub make_crew-requires-clause-pass : goal.make_crew-requires-clause-pass
 make_crew-requires-clause-pass g c =
     c.requires.pass ∙ ap (λ (rows : List (List Kind)). fresh_pass c.args.tickets.now.key (2 * sum_by length rows)) (sym c.rows-rows.ensures.rows)
 
+pub make_crew-requires-clause-roles : goal.make_crew-requires-clause-roles
+make_crew-requires-clause-roles g c = subst (λ (rows : List (List Kind)). (c.args.own ≡ no_ends) ⊎ HasOneOfEach rows) (sym c.rows-rows.ensures.rows) c.requires.roles
+
 pub work_and_collect-requires-clause-ready : goal.work_and_collect-requires-clause-ready
 work_and_collect-requires-clause-ready g c κs within =
     let e = c.in_ok-rest.ensures in
     let r = c.rows-rows.ensures in
-    ready _ _ _ _ e.workers (subst IsPlan (sym r.rows) r.limits)
+    ready _ _ _ _ e.workers (subst IsPlan (sym r.rows) r.limits) _ c.args.own c.requires.serves e.served
 
 pub returns-clause-key : goal.returns-clause-key
 returns-clause-key g c =

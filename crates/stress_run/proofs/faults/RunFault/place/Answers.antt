@@ -3,7 +3,7 @@ use Rattle.stress_run.specs.Faults.{place_in}
 use Rattle.stress_run.proofs.faults.RunFault.place.Goals as goal
 
 pub returns-in-Limit : goal.returns-in-Limit
-returns-in-Limit c = elim c.in-Limit.is [ inl is ↦ sym (ap place_in is) | inr is ↦ sym (ap place_in is) ]
+returns-in-Limit c = elim c.in-Limit.is [ inl is ↦ sym (ap place_in is) | inr (inl is) ↦ sym (ap place_in is) | inr (inr is) ↦ sym (ap place_in is) ]
 
 pub returns-in-Stalled : goal.returns-in-Stalled
 returns-in-Stalled c =

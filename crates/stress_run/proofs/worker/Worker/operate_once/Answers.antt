@@ -1,6 +1,6 @@
 use Rattle.std.proofs.Common.{◌<◌, ap, sym, subst, ◌∙◌, refl, arith}
 use Rattle.std.proofs.lemmas.Result.{IfOk-weaker, IfErr-weaker}
-use Rattle.stress_run.proofs.Once.{drew_call, works_once, told_once, stalls_once, stalls_at_call, on_err}
+use Rattle.stress_run.proofs.Once.{sent_with, stopped_with, drew_call, works_once, told_once, stalls_once, stalls_at_call, on_err}
 use Rattle.event_records.specs.Question.{NamerView, Question}
 use Rattle.event_records.specs.declared.event.Event.{Event}
 use Rattle.event_records.specs.declared.limits.TheConstants.{NAMES_OF_A_THREAD}
@@ -11,34 +11,36 @@ use Rattle.stress_run.proofs.worker.Worker.operate_once.Goals as goal
 pub returns-clause-works : goal.returns-clause-works
 returns-clause-works g c =
     let asks = c.ask_next-ask.ensures in
-    let said = c.stamped_answer-returned.ensures in
+    let said = c.stamped_answer-returned.ensures.stamped in
     IfOk-weaker c.record-2.result _ _ (λ x ended.
     works_once c.args.kind _ _ _ _ _ c.self.inside.namer _ c.draw.result _ _ (question_in c.ask_next-ask.result.0) _ _ said.noted
     c.self.view_is (c.self.invariant.0, refl)
     c.draw.ensures.drawn (asks.question, asks.noted, ap (λ x. x.asked) asks.counted) c.in_ok-record.ensures.sent c.self-2.view_is said.draws
-    _ said.answered (c.draw.ensures.key ∙ sym c.requires.key) said.of_question said.allowed said.returns said.answers_call ended)
+    _ said.answered (c.draw.ensures.key ∙ sym c.requires.key) said.of_question said.allowed said.returns said.answers_call
+    (sent_with _ _ _ _ _ _ c.self-2.view_is c.stamped_answer-returned.ensures.ends ended))
     c.record-2.ensures.sent
 
 pub returns-clause-told : goal.returns-clause-told
 returns-clause-told g c =
     let asks = c.ask_next-ask.ensures in
-    let said = c.stamped_answer-returned.ensures in
+    let said = c.stamped_answer-returned.ensures.stamped in
     IfOk-weaker c.record-2.result _ _ (λ x ended.
     told_once c.args.kind _ _ _ _ _ c.self.inside.namer _ c.draw.result _ _ (question_in c.ask_next-ask.result.0) _ _ said.noted
     c.self.view_is (c.self.invariant.0, refl)
     c.draw.ensures.drawn (asks.question, asks.noted, ap (λ x. x.asked) asks.counted) c.in_ok-record.ensures.sent c.self-2.view_is said.draws
-    _ said.answered said.of_question said.returns said.answers_call ended said.notes_it)
+    _ said.answered said.of_question said.returns said.answers_call
+    (sent_with _ _ _ _ _ _ c.self-2.view_is c.stamped_answer-returned.ensures.ends ended) said.notes_it)
     c.record-2.ensures.sent
 
 pub returns-clause-stalls : goal.returns-clause-stalls
 returns-clause-stalls g c =
     let asks = c.ask_next-ask.ensures in
-    let said = c.stamped_answer-returned.ensures in
+    let said = c.stamped_answer-returned.ensures.stamped in
     IfErr-weaker c.record-2.result _ _ (λ x ended.
     stalls_once c.args.kind _ _ _ _ _ c.self.inside.namer _ c.draw.result _ _ (question_in c.ask_next-ask.result.0) _ c.stamped_answer-returned.result said.noted
     c.self.view_is (c.self.invariant.0, refl)
     c.draw.ensures.drawn (asks.question, asks.noted, ap (λ x. x.asked) asks.counted) c.in_ok-record.ensures.sent c.self-2.view_is
-    said.draws c.requires.running ended.1 ended.0)
+    said.draws c.requires.running ended.1 (stopped_with _ _ _ _ _ c.self-2.view_is c.stamped_answer-returned.ensures.ends ended.0))
     c.record-2.ensures.stopped
 
 pub draw-requires-clause-pass_key : goal.draw-requires-clause-pass_key
