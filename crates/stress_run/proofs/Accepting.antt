@@ -7,8 +7,7 @@ use Rattle.tickets.specs.declared.note.Effect.{Effect}
 use Rattle.tickets.specs.declared.note.Effect.TheVariants as effect
 use Rattle.tickets.specs.declared.note.Note.{Note}
 use Rattle.tickets.specs.Log.{note_at}
-use Rattle.history_merge.specs.declared.operation.OpKind.{OpKind}
-use Rattle.tickets.specs.Nodes.{queue_after, queue_after_one}
+use Rattle.tickets.specs.Queue.{queue_after, queue_after_one}
 use Rattle.history_merge.specs.Queue.{accept, accept_all, IsAccepted}
 use Rattle.stress_run.specs.Noted.{kind_noted, kinds_noted}
 use Rattle.recorder_core.proofs.Effects.{accept_more}

@@ -1,5 +1,5 @@
 -- A run whose notes are a log that a queue accepts is a run of a proved queue.
-use Rattle.std.proofs.Common.{◌≡◌, ◌≢◌, ℕ, ◌≤◌, List, All, refl, IsPermutation, arith}
+use Rattle.std.proofs.Common.{◌≢◌, ℕ, ◌≤◌, List, All, refl, IsPermutation, arith}
 use Rattle.std.proofs.lemmas.List.Elements.{All-weaker}
 use Rattle.event_records.specs.declared.event.Event.{Event}
 use Rattle.event_records.specs.declared.kind.Kind.{Kind}

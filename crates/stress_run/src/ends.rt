@@ -1,15 +1,18 @@
-// The ends of a queue that a worker has for itself.
+// The two ends of the ring beside a ticket word, and what a worker has of them.
 ghost use Rattle.std.specs.Prelude.{◌≡◌, ◌⊎◌, All, Contains, None, Some};
+ghost use Rattle.event_records.specs.Question.{Question};
 ghost use Rattle.event_records.specs.declared.kind.Kind.{Kind};
+ghost use Rattle.queue_interface.specs.Answers.{AnswersInKind};
 ghost use Rattle.stress_run.specs.Ends.{end_for, no_ends};
+ghost use Rattle.stress_run.specs.Noted.{NotesOne};
 
 use crate::roles::has_kind;
-use event_records::Kind;
+use event_records::{AnsweredDeq, AnsweredEnq, AskDeq, AskEnq, Kind};
 use std::marker::Model;
-use tickets::{HeadEnd, TailEnd};
+use tickets::{HeadEnd, Pass, TailEnd, Tickets};
 use workloads::Row;
 
-// The tail end and the head end of a queue, each only if the worker has it. No other worker uses them.
+// The tail end and the head end of a queue that a worker has for itself, each only if it has it.
 #[derive(Drop)]
 pub(crate) struct Ends {
     pub(crate) tail: Option<TailEnd>,
@@ -17,12 +20,11 @@ pub(crate) struct Ends {
 }
 
 impl Model for Ends {
-    ghost use Rattle.std.specs.Option.{option_map};
     ghost use Rattle.stress_run.specs.Ends.{EndsView};
 
     ghost Value = { EndsView };
 
-    ghost view = { λ e. record { tail = e.tail; head = option_map (λ h. h.key) e.head } };
+    ghost view = { λ e. record { tail = e.tail; head = e.head } };
 }
 
 impl Ends {
@@ -38,7 +40,7 @@ impl Ends {
 
     // Returns both ends.
     pub(crate) fn both(tail: TailEnd, head: HeadEnd) -> Ends
-        ensures { result ≡ record { tail = Some tail; head = Some head.key } }
+        ensures { result ≡ record { tail = Some tail; head = Some head } }
     {
         Ends {
             tail: Some(tail),
@@ -62,5 +64,48 @@ impl Ends {
             None
         };
         Ends { tail, head }
+    }
+}
+
+// Enqueues the value of the question at the tail, unless the queue is full, and notes the answer.
+pub(crate) fn enqueue_at(
+    end: &mut TailEnd,
+    ask: AskEnq,
+    pass: &mut Pass,
+    tickets: &Tickets,
+) -> AnsweredEnq
+    requires key { (pass.old.key ≡ tickets.now.key) × (end.old ≡ tickets.now.key) }
+    requires drew { Contains pass.old.drawn ask.call }
+    ensures end { end.new ≡ end.old }
+    ensures question { result.question ≡ ask }
+    ensures allowed { AnswersInKind ask result.answer }
+    ensures pass { pass.new ≡ record pass.old { noted = pass.new.noted } }
+    ensures noted { NotesOne ask result.answer pass.old.noted pass.new.noted }
+{
+    if pass.put(tickets, end, ask.call(), ask.value()) {
+        ask.taken()
+    } else {
+        ask.not_taken()
+    }
+}
+
+// Dequeues the first value at the head, unless the queue is empty, and notes the answer.
+pub(crate) fn dequeue_at(
+    end: &mut HeadEnd,
+    ask: AskDeq,
+    pass: &mut Pass,
+    tickets: &Tickets,
+) -> AnsweredDeq
+    requires key { (pass.old.key ≡ tickets.now.key) × (end.old ≡ tickets.now.key) }
+    requires drew { Contains pass.old.drawn ask.call }
+    ensures end { end.new ≡ end.old }
+    ensures question { result.question ≡ ask }
+    ensures allowed { AnswersInKind ask result.answer }
+    ensures pass { pass.new ≡ record pass.old { noted = pass.new.noted } }
+    ensures noted { NotesOne ask result.answer pass.old.noted pass.new.noted }
+{
+    match pass.take(tickets, end, ask.call()) {
+        Some(value) => ask.got(value),
+        None => ask.empty(),
     }
 }

@@ -33,3 +33,6 @@ pub use workloads::{MAX_WORKERS, Plan};
 
 /// The maximum number of tries of a push.
 pub const MAX_TRIES: u32 = 10_000_000;
+
+/// The number of values that the ring of `ProvedQueue::Ring` has room for, unless a run has more initial values.
+pub const RING_PLACES: usize = 64;

@@ -1,5 +1,5 @@
 // Runs of proved queues.
-ghost use Rattle.std.specs.Prelude.{◌≡◌, ◌≢◌, ℕ, ◌*◌, ◌⊎◌, List, [], Err, length, sum_by, IfOk, IfErr};
+ghost use Rattle.std.specs.Prelude.{◌≡◌, ◌≢◌, ℕ, ◌*◌, ◌⊎◌, ◌↔◌, List, [], Err, length, sum_by, true, IfOk, IfErr, IsTrue};
 ghost use Rattle.event_records.specs.declared.event.Event.{Event};
 ghost use Rattle.history_merge.specs.Initial.{IsCompleteFrom};
 ghost use Rattle.history_merge.specs.Legal.{IsLinearizable};
@@ -12,14 +12,18 @@ ghost use Rattle.stress_run.specs.Failed.{IsFaultOfRun};
 ghost use Rattle.stress_run.specs.Faults.{IsWithinLimits};
 ghost use Rattle.stress_run.specs.Inner.Proved.{IsProvedRun};
 ghost use Rattle.stress_run.specs.Operations.{IsRun};
-ghost use Rattle.stress_run.specs.declared.faults.RunFault.TheVariants.{Limit, Memory, Preload};
+ghost use Rattle.stress_run.specs.declared.faults.RunFault.TheVariants.{Limit, Roles, Memory, Preload};
+ghost use Rattle.stress_run.specs.Roles.{CanRun, HasOneOfEach};
 ghost use Rattle.tickets.specs.Views.{fresh_pass};
 
+use crate::RING_PLACES;
 use crate::ends::Ends;
 use crate::faults::RunFault;
 use crate::lock_free::LockFree;
 use crate::making::Sizes;
 use crate::proved::{OfRun, Session};
+use crate::ring::Ring;
+use crate::roles::has_one_of_each;
 use crate::runs::{Recorded, admitted, run_on};
 use crate::two_locks::TwoLocks;
 use queue_interface::{Fifo, ValueList};
@@ -36,24 +40,24 @@ pub enum ProvedQueue {
     /// A list under one lock.
     OneLock,
     /// The queue with two locks of Michael and Scott (1996). An enqueue takes only the lock of the tail, a dequeue
-    /// only that of the head. Both share a row of nodes, one for each initial value and operation, none of which is
-    /// used twice. An enqueue writes its value into a node and then counts it. A dequeue finds the queue empty if as
-    /// many values were counted as were dequeued.
+    /// only that of the head. Both share a ring like that of `Ring`, which has room for all initial values and
+    /// operations.
     TwoLocks,
-    /// The queue without a lock of Michael and Scott (1996), on a row of nodes like that of `TwoLocks`. An enqueue
-    /// exchanges the mark of the first empty node for its value. A dequeue reads the first node whose value was not
+    /// The queue without a lock of Michael and Scott (1996), on a row of nodes, one for each initial value and
+    /// operation, none of which is used twice. An enqueue exchanges the mark of the first empty node for its value. A dequeue reads the first node whose value was not
     /// dequeued, and exchanges the count of dequeued values for the next number. A call whose exchange fails goes on
     /// from what it found, so it waits for nobody.
     LockFree,
-    /// The bounded ring without a lock of Lamport (1983, "Specifying concurrent program modules"), for one producer and
-    /// one consumer. It has `RING_PLACES` places, or as many as there are initial values if these are more, which are
-    /// used again and again.
+    /// The bounded queue without a lock of Lamport (1983, "Specifying concurrent program modules"), for one producer
+    /// and one consumer: a ring of cells that are used again and again. It has room for `RING_PLACES` values, or for
+    /// all initial values if these are more.
     ///
-    /// The producer alone writes values and the count of enqueued ones, the consumer alone that of dequeued ones. So
-    /// neither takes a lock: each knows its own count, and what it reads of the other's stays true, since counts only
-    /// grow. An enqueue first reads the count of dequeued values: it fails if the ring is full, or else writes its
-    /// value and counts it. A dequeue first reads the count of enqueued values: it finds the queue empty if all were
-    /// dequeued, or else reads the value and counts it.
+    /// The producer alone writes the cells and the position of the tail, and the consumer alone that of the head. So
+    /// neither needs a lock: room that the producer saw stays until it uses it, and so does a value that the consumer
+    /// saw. An enqueue succeeds at the store of the tail's next position, after it wrote its value into the cell. It
+    /// fails, since the ring is full, at a load of the head's position that is the tail's next one. A dequeue gets its
+    /// value at the store of the head's next position, which frees the cell, after it read the value. It finds the
+    /// queue empty at a load of the tail's position that is the head's.
     Ring,
 }
 
@@ -110,7 +114,7 @@ fn run_named<J: OfRun + Send + Sync, R: Threads + Wait + Sync>(
     })
 }
 
-// Runs a plan on nodes with a lock for each end, which stand beside the ticket word. The caller chooses `J` for its
+// Runs a plan on a ring with a lock for each end, which stands beside the ticket word. The caller chooses `J` for its
 // run.
 fn run_between<J: OfRun + Send + Sync, R: Threads + Wait + Sync>(
     rt: &R,
@@ -122,18 +126,18 @@ fn run_between<J: OfRun + Send + Sync, R: Threads + Wait + Sync>(
 ) -> Result<Recorded, RunFault>
     requires sizes { IsWithinLimits sizes.ring sizes.tries }
     requires names { AreInitialNames initial.items }
-    requires run { (named.0.key ≡ J.word) × (initial.items ≡ J.initial) }
+    requires run { (named.0.key ≡ J.word) × (named.0.ended ≡ true) × (named.0.initial ≡ initial.items) }
     requires budget { named.0.budget ≡ 2 * sum_by length plan.now }
     requires pass { named.1 ≡ fresh_pass named.0.key (2 * sum_by length plan.now) }
     requires tail { named.2 ≡ named.0.key }
-    requires head { named.3 ≡ record { key = named.0.key; initial = initial.items } }
+    requires head { named.3 ≡ named.0.key }
     ensures proved { IfOk result (IsProvedRun plan.now sizes.ring initial.items) }
     ensures fault { IfErr result (IsFaultOfRun AnswersInKind [] plan.now sizes) }
 {
     let (tickets, pass, tail, head) = named;
     let queue: TwoLocks<'_, J, R> = TwoLocks::new(rt, tail, head);
     let (lists, pass) = run_on(rt, alloc, &queue, &tickets, pass, Ends::none(), plan, sizes)?;
-    let total = tickets.close_with_nodes(pass, queue.into_head());
+    let total = tickets.close_with_ring(pass);
     Ok(Recorded {
         initial,
         lists,
@@ -158,7 +162,7 @@ fn run_one_lock<R: Threads + Wait + Sync>(
     run_named::<Brand, R>(rt, alloc, named, initial, plan, sizes)
 }
 
-// Runs a plan on nodes with a lock for each end, which hold the initial values at first.
+// Runs a plan on a ring with a lock for each end, which holds the initial values at first.
 fn run_two_locks<R: Threads + Wait + Sync>(
     rt: &R,
     alloc: Global,
@@ -173,7 +177,7 @@ fn run_two_locks<R: Threads + Wait + Sync>(
 {
     let operations = plan.operations();
     let room = initial.len() + operations as usize;
-    let named = Tickets::with_nodes(alloc, 2 * operations, initial.as_slice(), room)?;
+    let named = Tickets::with_ring(alloc, 2 * operations, initial.as_slice(), room)?;
     run_between::<Brand, R>(rt, alloc, named, initial, plan, sizes)
 }
 
@@ -217,6 +221,46 @@ fn run_lock_free<R: Threads + Sync>(
     })
 }
 
+// Runs a plan on a ring without a lock, which holds the initial values at first.
+fn run_ring<R: Threads + Sync>(
+    rt: &R,
+    alloc: Global,
+    initial: Vec<u64>,
+    plan: &Plan,
+    sizes: Sizes,
+) -> Result<Recorded, RunFault>
+    requires sizes { IsWithinLimits sizes.ring sizes.tries }
+    requires names { AreInitialNames initial.items }
+    requires roles { HasOneOfEach plan.now }
+    ensures proved { IfOk result (IsProvedRun plan.now sizes.ring initial.items) }
+    ensures fault { IfErr result (IsFaultOfRun AnswersInKind [] plan.now sizes) }
+{
+    let (tickets, pass, tail, head) = Tickets::with_ring(
+        alloc,
+        2 * plan.operations(),
+        initial.as_slice(),
+        RING_PLACES.max(initial.len()),
+    )?;
+    let ends = Ends::both(tail, head);
+    let (lists, pass) = run_on(rt, alloc, &Ring, &tickets, pass, ends, plan, sizes)?;
+    let total = tickets.close_with_ring(pass);
+    Ok(Recorded {
+        initial,
+        lists,
+        total,
+    })
+}
+
+// Returns whether the queue can run this plan.
+fn can_run(queue: ProvedQueue, plan: &Plan) -> bool
+    ensures { IsTrue result ↔ CanRun queue plan.now }
+{
+    match queue {
+        ProvedQueue::Ring => has_one_of_each(plan.rows()),
+        ProvedQueue::OneLock | ProvedQueue::TwoLocks | ProvedQueue::LockFree => true,
+    }
+}
+
 // Runs a plan on this queue, which holds the initial values at first.
 fn run_held<R: Threads + Wait + Sync>(
     rt: &R,
@@ -228,6 +272,7 @@ fn run_held<R: Threads + Wait + Sync>(
 ) -> Result<Recorded, RunFault>
     requires sizes { IsWithinLimits sizes.ring sizes.tries }
     requires names { AreInitialNames initial.items }
+    requires roles { CanRun queue plan.now }
     ensures proved { IfOk result (IsProvedRun plan.now sizes.ring initial.items) }
     ensures fault { IfErr result (IsFaultOfRun AnswersInKind [] plan.now sizes) }
 {
@@ -235,7 +280,7 @@ fn run_held<R: Threads + Wait + Sync>(
         ProvedQueue::OneLock => run_one_lock(rt, alloc, initial, plan, sizes),
         ProvedQueue::TwoLocks => run_two_locks(rt, alloc, initial, plan, sizes),
         ProvedQueue::LockFree => run_lock_free(rt, alloc, initial, plan, sizes),
-        ProvedQueue::Ring => Err(RunFault::Memory),
+        ProvedQueue::Ring => run_ring(rt, alloc, initial, plan, sizes),
     }
 }
 
@@ -244,7 +289,8 @@ fn run_held<R: Threads + Wait + Sync>(
 ///
 /// The step that decides an answer also notes it. The notes exist only in proofs; with a lock, each costs four to
 /// seven loads of the ticket word. Faults, waiting and memory are those of [`run_from`](crate::run_from), with the
-/// memory of the list or the nodes in place of the queue's. `Preload` never comes.
+/// memory of the list, the nodes or the ring in place of the queue's. `Preload` never comes. `Roles` comes, before any
+/// thread is started, if the queue is a ring and the plan gives enqueues to more than one worker, or dequeues.
 pub fn run_proved<R: Threads + Wait + Sync>(
     rt: &R,
     alloc: Global,
@@ -263,8 +309,13 @@ pub fn run_proved<R: Threads + Wait + Sync>(
     ensures sizes { ¬ IsWithinLimits ring tries → result ≡ Err Limit }
     ensures names { ¬ AreInitialNames initial.now → (result ≡ Err Limit) ⊎ (result ≡ Err Memory) }
     ensures preloads { (place : ℕ) → result ≢ Err (Preload place) }
-    ensures fault { IfErr result (IsFaultOfRun AnswersInKind initial.now plan.now (record { ring = ring; tries = tries })) }
+    ensures roles { result ≡ Err Roles → ¬ CanRun queue plan.now }
+    ensures refused { IsWithinLimits ring tries → AreInitialNames initial.now → ¬ CanRun queue plan.now → (result ≡ Err Roles) ⊎ (result ≡ Err Memory) }
+    ensures fault { IfErr result (λ fault. (fault ≡ Roles) ⊎ IsFaultOfRun AnswersInKind initial.now plan.now (record { ring = ring; tries = tries }) fault) }
 {
     let (sizes, held) = admitted(alloc, initial, ring, tries)?;
+    if !can_run(queue, plan) {
+        return Err(RunFault::Roles);
+    }
     run_held(rt, alloc, queue, held, plan, sizes)
 }

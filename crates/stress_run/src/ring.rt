@@ -1,11 +1,11 @@
-// The ring without a lock: a row of nodes beside the ticket word, with one producer and one consumer.
+// The proved queue for one producer and one consumer: a ring beside the ticket word, without a lock.
 use crate::asked::Asked;
-use crate::ends::Ends;
+use crate::ends::{Ends, dequeue_at, enqueue_at};
 use event_records::{AnsweredDeq, AnsweredEnq, AskDeq, AskEnq};
 use tickets::{Pass, Tickets};
 
-// The queue of the nodes beside the ticket word. The worker that enqueues has the tail end and the one that dequeues
-// has the head end, so the queue itself shares nothing.
+// The queue in the ring beside the ticket word. The worker that enqueues has the tail end, and the one that dequeues
+// the head end, so the queue itself shares nothing.
 #[derive(Drop)]
 pub(crate) struct Ring;
 
@@ -27,13 +27,7 @@ impl Asked for Ring {
         tickets: &Tickets,
     ) -> AnsweredEnq {
         match &mut ends.tail {
-            Some(end) => {
-                if pass.put(tickets, end, ask.call(), ask.value()) {
-                    ask.taken()
-                } else {
-                    ask.not_taken()
-                }
-            }
+            Some(end) => enqueue_at(end, ask, pass, tickets),
             None => unreachable!(),
         }
     }
@@ -46,10 +40,7 @@ impl Asked for Ring {
         tickets: &Tickets,
     ) -> AnsweredDeq {
         match &mut ends.head {
-            Some(end) => match pass.take(tickets, end, ask.call()) {
-                Some(value) => ask.got(value),
-                None => ask.empty(),
-            },
+            Some(end) => dequeue_at(end, ask, pass, tickets),
             None => unreachable!(),
         }
     }

@@ -1,4 +1,4 @@
-use Rattle.std.proofs.Common.{List, ℕ, sym, subst, refl, ◌∙◌}
+use Rattle.std.proofs.Common.{List, ℕ, subst, refl}
 use Rattle.history_merge.specs.Queue.{IsAccepted}
 use Rattle.stress_run.specs.Noted.{kinds_noted}
 use Rattle.stress_run.proofs.Accepting.{noted_accepted}
@@ -8,8 +8,8 @@ use Rattle.stress_run.proofs.proving.run_between.Goals as goal
 pub returns-clause-proved : goal.returns-clause-proved
 returns-clause-proved g c =
     let run = c.in_ok-lists.ensures in
-    let total = c.close_with_nodes-total.result in
-    let drawn = c.close_with_nodes-total.ensures.drawn in
-    let end = c.close_with_nodes-total.ensures.log in
+    let total = c.close_with_ring-total.result in
+    let drawn = c.close_with_ring-total.ensures.drawn in
+    let end = c.close_with_ring-total.ensures.log in
     proved_run _ _ _ _ _ _ _ _ c.requires.sizes c.requires.names (run.recorded total drawn) (run.lists total drawn) (run.told refl) end.1 end.2
-    (subst (λ (values : List ℕ). IsAccepted values (kinds_noted end.0)) (c.into_head.ensures.initial ∙ sym c.requires.run.1) (noted_accepted _ end.0 end.3))
+    (subst (λ (values : List ℕ). IsAccepted values (kinds_noted end.0)) c.requires.run.2 (noted_accepted _ end.0 end.3))

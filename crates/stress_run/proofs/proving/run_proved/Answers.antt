@@ -1,4 +1,4 @@
-use Rattle.std.proofs.Common.{List, ℕ, subst, ap, ◌∙◌}
+use Rattle.std.proofs.Common.{inr, List, ℕ, subst, ap, ◌∙◌}
 use Rattle.std.proofs.lemmas.Result.{IfOk-weaker, IfErr-weaker}
 use Rattle.event_records.specs.declared.event.Event.{Event}
 use Rattle.history_merge.specs.Initial.{IsCompleteFrom}
@@ -29,8 +29,8 @@ returns-clause-replays g c =
 
 pub returns-clause-fault : goal.returns-clause-fault
 returns-clause-fault g c =
-    IfErr-weaker c.run_held.result _ _ (λ fault is. fault_from _ c.args.initial.now c.args.plan.now c.in_ok-sizes.sizes
-    (record { ring = c.args.ring; tries = c.args.tries }) fault c.in_ok-sizes.ensures.sizes.0 c.in_ok-sizes.ensures.sizes.1 is) c.run_held.ensures.fault
+    IfErr-weaker c.run_held.result _ _ (λ fault is. inr (fault_from _ c.args.initial.now c.args.plan.now c.in_ok-sizes.sizes
+    (record { ring = c.args.ring; tries = c.args.tries }) fault c.in_ok-sizes.ensures.sizes.0 c.in_ok-sizes.ensures.sizes.1 is)) c.run_held.ensures.fault
 
 pub returns-clause-preloads : goal.returns-clause-preloads
 returns-clause-preloads g c = λ place is. names_no_value _ c.args.plan.now _ c.run_held.result place is c.run_held.ensures.fault

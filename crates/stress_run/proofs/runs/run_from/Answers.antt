@@ -1,4 +1,4 @@
-use Rattle.std.proofs.Common.{◌∙◌, ℕ, List, IfOk, ap, sym, subst, rules}
+use Rattle.std.proofs.Common.{◌∙◌, ℕ, List, IfOk, ap, sym, subst}
 use Rattle.recorder_core.specs.Initial.{AreInitialNames}
 use Rattle.stress_run.specs.Faults.{IsWithinLimits}
 use Rattle.std.proofs.lemmas.Result.{IfOk-weaker, IfErr-weaker}
