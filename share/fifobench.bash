@@ -7,7 +7,7 @@ _fifobench_words() {
 
 _fifobench() {
     local word=$2 before=$3 command=${COMP_WORDS[1]} value=
-    local queues='proved proved-two-lock proved-lock-free locked two-lock array seg lifo doubling inventing shy losing'
+    local queues='proved proved-two-lock proved-lock-free proved-ring locked two-lock array seg lifo doubling inventing shy losing'
     COMPREPLY=()
     # Behind < and > stands a file, which bash itself completes; elsewhere none does.
     case $before in

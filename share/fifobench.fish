@@ -27,6 +27,7 @@ complete -c fifobench -n '__fish_seen_subcommand_from stress' -l queue -x -d 'Na
     proved\t'A list under one lock, proved to keep the order'
     proved-two-lock\t'Nodes with a lock for each end, proved to keep the order'
     proved-lock-free\t'Nodes without a lock, proved to keep the order'
+    proved-ring\t'A ring for one producer and one consumer, proved to keep the order'
     locked\t'A list under one lock'
     two-lock\t'An inbox and an outbox, each under a lock of its own'
     array\t'ArrayQueue of crossbeam, with room for 1024 values'

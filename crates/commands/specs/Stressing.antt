@@ -19,11 +19,13 @@ use Rattle.stress_run.specs.declared.faults.RunFault.TheVariants.{Limit, Preload
 use Rattle.stress_run.specs.Operations.{IsRun}
 use Rattle.stress_run.specs.Failed.{IsFaultOfRun}
 use Rattle.stress_run.specs.Preloaded.{AreTaken, IsFirstRefused}
+use Rattle.stress_run.specs.declared.proving.ProvedQueue.{ProvedQueue}
+use Rattle.stress_run.specs.declared.proving.ProvedQueue.TheVariants.{OneLock, TwoLocks, LockFree, Ring}
 use Rattle.command_words.specs.Options.{Settings}
 use Rattle.command_words.specs.declared.options.Condition.{Condition}
 use Rattle.commands.specs.declared.stress.TheConstants.{TRIES}
 use Rattle.queue_interface.specs.Answers.{AnswersInKind, TakesOrRefuses}
-use Rattle.commands.specs.Answers.{Reply, ShowsNoViolation, shown, refused_queue, refused_limit, memory_fault, run_fault}
+use Rattle.commands.specs.Answers.{Reply, ShowsNoViolation, shown, refused_queue, refused_roles, refused_limit, memory_fault, run_fault}
 use Rattle.commands.specs.Judging.{IsOfVerdictUnder, Whether}
 
 -- x is the first element of the list that this name fits
@@ -93,14 +95,35 @@ StressesQueue may may_preload settings answer =
     Whether (settings.threads * settings.operations ≤ MAX_OPERATIONS) (RunsOrFails may may_preload settings answer)
     (answer ≡ refused_limit)
 
--- the name of a proved queue: a list under one lock, nodes with a lock for each end, or nodes without a lock
-abbrev pub IsProvedName : List ℕ → Type 0
-IsProvedName name = (name ≡ codes "proved") ⊎ ((name ≡ codes "proved-two-lock") ⊎ (name ≡ codes "proved-lock-free"))
+-- the name of a proved queue
+abbrev pub proved_name : ProvedQueue → List ℕ
+proved_name OneLock = codes "proved"
+proved_name TwoLocks = codes "proved-two-lock"
+proved_name LockFree = codes "proved-lock-free"
+proved_name Ring = codes "proved-ring"
 
--- of a name that no queue of the shelf has: the run of a proved queue shows no violation, and any other name is refused
+-- some proved queue has this name
+abbrev pub IsProvedName : List ℕ → Type 0
+IsProvedName name = (queue : ProvedQueue) × (name ≡ proved_name queue)
+
+-- one producer and one consumer: one worker alone, or two of which one is a producer
+abbrev pub AsksForOneOfEach : Settings → Type 0
+AsksForOneOfEach settings = (settings.threads ≡ 1) ⊎ ((settings.threads ≡ 2) × (settings.producers ≡ 1))
+
+-- a proved queue can run the plan of the settings: a ring only one with one producer and one consumer
+abbrev pub SuitsRoles : ProvedQueue → Settings → Type 0
+SuitsRoles queue settings = queue ≡ Ring → AsksForOneOfEach settings
+
+-- the run of a proved queue shows no violation; a plan that the queue can't run is refused
+abbrev pub StressesProved : ProvedQueue → Settings → Reply → Type 0
+StressesProved queue settings answer = Whether (SuitsRoles queue settings)
+    (StressesQueue AnswersInKind (λ _. TakesOrRefuses) settings answer × ShowsNoViolation answer) (answer ≡ refused_roles)
+
+-- of a name that no queue of the shelf has: the proved queue of the name is run, and a name that no proved queue has is refused
 abbrev pub StressesUnshelved : Settings → Reply → Type 0
-StressesUnshelved settings answer = Whether (IsProvedName settings.queue)
-    (StressesQueue AnswersInKind (λ _. TakesOrRefuses) settings answer × ShowsNoViolation answer) (answer ≡ refused_queue)
+StressesUnshelved settings answer =
+    ((queue : ProvedQueue) × (settings.queue ≡ proved_name queue) × StressesProved queue settings answer)
+    ⊎ ((¬ IsProvedName settings.queue) × (answer ≡ refused_queue))
 
 -- `stress` on a shelf of queues with names: the first of the name is run
 abbrev pub Stresses : {X : Type 0} → (X → List ℕ) → (X → Question → Answer → Type 0) → (X → ℕ → ℕ → Bool → Type 0) → List X → Settings → Reply → Type 0

@@ -1,5 +1,5 @@
 //! `stress`: a recorded run of a queue, and its verdict.
-ghost use Rattle.std.specs.Prelude.{◌≡◌, ◌≢◌, ◌≤◌, ◌*◌, IfOk, IfSome, IfNone, List, All};
+ghost use Rattle.std.specs.Prelude.{◌≡◌, ◌≢◌, ◌≤◌, ◌↔◌, ◌*◌, IsTrue, IfOk, IfSome, IfNone, List, All};
 ghost use Rattle.event_records.specs.declared.event.Event.{Event};
 ghost use Rattle.event_records.specs.declared.limits.TheConstants.{MAX_OPERATIONS, MAX_STRESS_INITIAL};
 ghost use Rattle.history_merge.specs.Legal.{IsLinearizable};
@@ -10,7 +10,8 @@ ghost use Rattle.command_words.specs.Options.{settings_of, IsWithinRanges};
 ghost use Rattle.commands.specs.Answers.{ShowsNoViolation};
 ghost use Rattle.commands.specs.Judging.{AnswersOrNoMemory};
 ghost use Rattle.commands.specs.Outcomes.{answer_of, NamesPlaces};
-ghost use Rattle.commands.specs.Stressing.{IsFirstNamed, IsPlanned, IsProvedName, IsShownRun, RunsOrFails, Stresses, StressesQueue, StressesUnshelved, first_values, run_version};
+ghost use Rattle.commands.specs.Stressing.{AsksForOneOfEach, IsFirstNamed, IsPlanned, IsProvedName, IsShownRun, RunsOrFails, Stresses, StressesQueue, StressesUnshelved};
+ghost use Rattle.commands.specs.Stressing.{SuitsRoles, first_values, proved_name, run_version};
 
 use crate::histories::PIECES;
 use crate::judging::decide_under;
@@ -71,7 +72,7 @@ fn find<'b, 'a>(shelf: &'b [NamedQueue<'a>], name: &str) -> Option<&'b NamedQueu
 
 /// Returns the proved queue of this name.
 fn proved_of(name: &str) -> Option<ProvedQueue>
-    ensures named { IfSome result (λ _. IsProvedName name.now) }
+    ensures named { IfSome result (λ queue. name.now ≡ proved_name queue) }
     ensures other { IfNone result (¬ IsProvedName name.now) }
 {
     if name == "proved" {
@@ -83,10 +84,30 @@ fn proved_of(name: &str) -> Option<ProvedQueue>
     if name == "proved-lock-free" {
         return Some(ProvedQueue::LockFree);
     }
+    if name == "proved-ring" {
+        return Some(ProvedQueue::Ring);
+    }
     None
 }
 
-/// Runs the proved queue of a name that no queue of the shelf has, if there is one.
+/// Returns whether the plan has at most one producer and at most one consumer.
+fn asks_for_one_of_each<'a>(options: &StressOptions<'a>) -> bool
+    ensures { IsTrue result ↔ AsksForOneOfEach (settings_of options.now) }
+{
+    options.threads == 1 || (options.threads == 2 && options.producers == 1)
+}
+
+/// Returns whether the queue can run the plan.
+fn suits_roles<'a>(queue: ProvedQueue, options: &StressOptions<'a>) -> bool
+    ensures { IsTrue result ↔ SuitsRoles queue (settings_of options.now) }
+{
+    match queue {
+        ProvedQueue::Ring => asks_for_one_of_each(options),
+        ProvedQueue::OneLock | ProvedQueue::TwoLocks | ProvedQueue::LockFree => true,
+    }
+}
+
+/// Runs the proved queue of a name that no queue of the shelf has, if there is one that can run the plan.
 fn stress_unshelved<'a, R: Threads + Wait + Sync>(
     rt: &R,
     alloc: Global,
@@ -96,10 +117,13 @@ fn stress_unshelved<'a, R: Threads + Wait + Sync>(
     ensures found { StressesUnshelved (settings_of options.now) (answer_of result) }
     ensures places { NamesPlaces result }
 {
-    match proved_of(options.queue) {
-        Some(queue) => stress_proved(rt, alloc, queue, options),
-        None => Err(Fault::Queue),
+    let Some(queue) = proved_of(options.queue) else {
+        return Err(Fault::Queue);
+    };
+    if !suits_roles(queue, options) {
+        return Err(Fault::Roles);
     }
+    stress_proved(rt, alloc, queue, options)
 }
 
 /// Runs a queue of the shelf, and judges the recorded history.
@@ -143,7 +167,8 @@ fn stress_proved<'a, R: Threads + Wait + Sync>(
     queue: ProvedQueue,
     options: &StressOptions<'a>,
 ) -> Outcome
-    requires { IsWithinRanges (settings_of options.now) }
+    requires ranges { IsWithinRanges (settings_of options.now) }
+    requires roles { SuitsRoles queue (settings_of options.now) }
     ensures found { StressesQueue AnswersInKind (λ _. TakesOrRefuses) (settings_of options.now) (answer_of result) }
     ensures linearizable { ShowsNoViolation (answer_of result) }
     ensures places { NamesPlaces result }

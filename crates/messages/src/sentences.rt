@@ -74,6 +74,7 @@ fn run_message(alloc: Global, fault: RunFault) -> Result<Message, AllocError> {
     match fault {
         RunFault::Memory => Message::of(alloc, "memory ran out", &[], ""),
         RunFault::Limit => Message::of(alloc, "the run is larger than a run may be", &[], ""),
+        RunFault::Roles => roles_message(alloc),
         RunFault::Stalled(thread) => Message::of(
             alloc,
             "the ring of thread {} stayed full: its events weren't collected in time",
