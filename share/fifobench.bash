@@ -7,7 +7,7 @@ _fifobench_words() {
 
 _fifobench() {
     local word=$2 before=$3 command=${COMP_WORDS[1]} value=
-    local queues='proved proved-two-lock proved-lock-free locked two-lock array seg lifo doubling inventing shy losing'
+    local queues='proved proved-two-lock proved-lock-free proved-ring locked two-lock array seg lifo doubling inventing shy losing'
     COMPREPLY=()
     # Behind < and > stands a file, which bash itself completes; elsewhere none does.
     case $before in
@@ -54,12 +54,12 @@ _fifobench() {
         stress)
             case $before in
                 --queue) _fifobench_words "$queues" "$word" ;;
-                --threads | --ops | --seed | --percent | --ring | --initial) ;;
+                --threads | --ops | --seed | --percent | --producers | --ring | --initial) ;;
                 *)
                     if [[ $word == --queue=* ]]; then
                         _fifobench_words "--queue=${queues// / --queue=}" "$word"
                     elif [ -z "$value" ]; then
-                        _fifobench_words '--queue --threads --ops --seed --percent --ring --initial --local --weak-empty -q --quiet -h --help' "$word"
+                        _fifobench_words '--queue --threads --ops --seed --percent --producers --ring --initial --local --weak-empty -q --quiet -h --help' "$word"
                     fi
                     ;;
             esac

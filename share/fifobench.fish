@@ -27,6 +27,7 @@ complete -c fifobench -n '__fish_seen_subcommand_from stress' -l queue -x -d 'Na
     proved\t'A list under one lock, proved to keep the order'
     proved-two-lock\t'Nodes with a lock for each end, proved to keep the order'
     proved-lock-free\t'Nodes without a lock, proved to keep the order'
+    proved-ring\t'A ring for one producer and one consumer, proved to keep the order'
     locked\t'A list under one lock'
     two-lock\t'An inbox and an outbox, each under a lock of its own'
     array\t'ArrayQueue of crossbeam, with room for 1024 values'
@@ -40,6 +41,7 @@ complete -c fifobench -n '__fish_seen_subcommand_from stress' -l threads -x -d '
 complete -c fifobench -n '__fish_seen_subcommand_from stress' -l ops -x -d 'Operations of each worker, 0 to 100000'
 complete -c fifobench -n '__fish_seen_subcommand_from stress' -l seed -x -d 'Seed of the plan, 0 to 4294967295'
 complete -c fifobench -n '__fish_seen_subcommand_from stress' -l percent -x -d 'Enqueues among a hundred operations, 0 to 100'
+complete -c fifobench -n '__fish_seen_subcommand_from stress' -l producers -x -d 'Workers that only enqueue, 0 to 32'
 complete -c fifobench -n '__fish_seen_subcommand_from stress' -l ring -x \
     -d 'Events that the ring of each worker holds, 2 to 65536'
 complete -c fifobench -n '__fish_seen_subcommand_from stress' -l initial -x \

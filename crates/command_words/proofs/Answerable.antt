@@ -107,12 +107,15 @@ all_use_well = (
         (
           number_uses stress_rules (codes "percent") 0 100 (codes "50") (λ v e. e),
           (
-            number_uses stress_rules (codes "ring") MIN_RING MAX_RING (codes "1024") (λ v e. e),
+            number_uses stress_rules (codes "producers") 0 MAX_WORKERS (codes "0") (λ v e. e),
             (
-              number_uses stress_rules (codes "initial") 0 MAX_STRESS_INITIAL (codes "0") (λ v e. e),
+              number_uses stress_rules (codes "ring") MIN_RING MAX_RING (codes "1024") (λ v e. e),
               (
-                quiet_uses,
-                (flag_uses stress_rules (codes "local") (λ v. refl), (flag_uses stress_rules (codes "weak-empty") (λ v. refl), (help_uses stress_rules, tt))),
+                number_uses stress_rules (codes "initial") 0 MAX_STRESS_INITIAL (codes "0") (λ v e. e),
+                (
+                  quiet_uses,
+                  (flag_uses stress_rules (codes "local") (λ v. refl), (flag_uses stress_rules (codes "weak-empty") (λ v. refl), (help_uses stress_rules, tt))),
+                ),
               ),
             ),
           ),
@@ -123,7 +126,7 @@ all_use_well = (
 )
 
 defaults_do : DefaultsPass (test stress_rules) (built_with (codes "stress") stress_rules).rules
-defaults_do = (tt, (refl, (refl, (refl, (refl, (refl, (refl, (refl, (refl, (refl, (tt, tt)))))))))))
+defaults_do = (tt, (refl, (refl, (refl, (refl, (refl, (refl, (refl, (refl, (refl, (refl, (tt, tt))))))))))))
 
 any_text : (o : Option Text) (P : Text → Type 0) → IsSomeAnd o P → IsSome o
 any_text None P h = absurd h
@@ -177,8 +180,9 @@ module _ (rest : List Text) (none : level_fault (built_with (codes "stress") str
     operations = setting (codes "ops") 0 MAX_THREAD_OPERATIONS (λ v e. e) (inr (inr (inl (refl, tt))));
     seed = setting (codes "seed") 0 MAX_SEED (λ v e. e) (inr (inr (inr (inl (refl, tt)))));
     percent = setting (codes "percent") 0 100 (λ v e. e) (inr (inr (inr (inr (inl (refl, tt))))));
-    ring = setting (codes "ring") MIN_RING MAX_RING (λ v e. e) (inr (inr (inr (inr (inr (inl (refl, tt)))))));
-    initial = setting (codes "initial") 0 MAX_STRESS_INITIAL (λ v e. e) (inr (inr (inr (inr (inr (inr (inl (refl, tt))))))));
+    producers = setting (codes "producers") 0 MAX_WORKERS (λ v e. e) (inr (inr (inr (inr (inr (inl (refl, tt)))))));
+    ring = setting (codes "ring") MIN_RING MAX_RING (λ v e. e) (inr (inr (inr (inr (inr (inr (inl (refl, tt))))))));
+    initial = setting (codes "initial") 0 MAX_STRESS_INITIAL (λ v e. e) (inr (inr (inr (inr (inr (inr (inr (inl (refl, tt)))))))));
   }
 
 -- ---- the options of `draw`

@@ -26,6 +26,7 @@ within_ranges rows h = record {
   operations = (in_range (codes "ops") 0 MAX_THREAD_OPERATIONS rows h.operations).1;
   seed = (in_range (codes "seed") 0 MAX_SEED rows h.seed).1;
   percent = (in_range (codes "percent") 0 100 rows h.percent).1;
+  producers = (in_range (codes "producers") 0 MAX_WORKERS rows h.producers).1;
   ring = in_range (codes "ring") MIN_RING MAX_RING rows h.ring;
   initial = (in_range (codes "initial") 0 MAX_STRESS_INITIAL rows h.initial).1;
 }

@@ -91,6 +91,7 @@ stress_rules = queue_rule ∷ number_rule (codes "threads") 1 MAX_WORKERS (codes
     ∷ number_rule (codes "ops") 0 MAX_THREAD_OPERATIONS (codes "1000")
     ∷ number_rule (codes "seed") 0 MAX_SEED (codes "1")
     ∷ number_rule (codes "percent") 0 100 (codes "50")
+    ∷ number_rule (codes "producers") 0 MAX_WORKERS (codes "0")
     ∷ number_rule (codes "ring") MIN_RING MAX_RING (codes "1024")
     ∷ number_rule (codes "initial") 0 MAX_STRESS_INITIAL (codes "0") ∷ quiet_rule ∷ condition_rules
 
@@ -107,6 +108,7 @@ pub record Settings : Type 0 where
   pub operations : ℕ
   pub seed : ℕ
   pub percent : ℕ
+  pub producers : ℕ
   pub ring : ℕ
   pub initial : ℕ
   pub condition : Condition
@@ -119,6 +121,7 @@ settings_of o = record {
   operations = o.operations;
   seed = o.seed;
   percent = o.percent;
+  producers = o.producers;
   ring = o.ring;
   initial = o.initial;
   condition = o.condition;
@@ -187,6 +190,7 @@ settings_in rows = record {
   operations = number_in (codes "ops") rows;
   seed = number_in (codes "seed") rows;
   percent = number_in (codes "percent") rows;
+  producers = number_in (codes "producers") rows;
   ring = number_in (codes "ring") rows;
   initial = number_in (codes "initial") rows;
   condition = condition_in rows;
@@ -198,5 +202,6 @@ pub record IsWithinRanges (s : Settings) : Type 0 where
   pub operations : s.operations ≤ MAX_THREAD_OPERATIONS
   pub seed : s.seed ≤ MAX_SEED
   pub percent : s.percent ≤ 100
+  pub producers : s.producers ≤ MAX_WORKERS
   pub ring : (MIN_RING ≤ s.ring) × (s.ring ≤ MAX_RING)
   pub initial : s.initial ≤ MAX_STRESS_INITIAL

@@ -4,7 +4,7 @@ ghost use Rattle.clap.specs.Simple.{Shape, app_of, new_app, shape_of, with_subco
 ghost use Rattle.clap.specs.Walk.{rule_of};
 ghost use Rattle.clap.specs.declared.builder.command.Command.TheViews.{out-Command};
 ghost use Rattle.command_words.specs.Commands.{the_program, the_program_alone};
-ghost use Rattle.command_words.specs.Inner.Built.{with_condition, with_first_four};
+ghost use Rattle.command_words.specs.Inner.Built.{with_condition, with_first_four, with_kinds};
 ghost use Rattle.command_words.specs.Inner.Built.{with_last_five, with_plan, with_sizes};
 ghost use Rattle.command_words.specs.Options.{flag_rule, number_rule, queue_rule, quiet_rule, the_complete};
 ghost use Rattle.command_words.specs.Options.{the_deciding, the_draw, the_judging, the_stats, the_stress, the_verify};
@@ -193,7 +193,8 @@ fn stress_command<'a>(alloc: Global) -> Result<Command<'a>, AllocError>
 {
     let command = plain_command(alloc, "stress", help::STRESS_ABOUT, help::STRESS_LONG);
     let half = with_plan(alloc, command)?;
-    let strict = with_sizes(alloc, half)?;
+    let whole = with_kinds(alloc, half)?;
+    let strict = with_sizes(alloc, whole)?;
     with_condition(alloc, strict)
 }
 
@@ -222,14 +223,30 @@ fn with_plan<'a>(alloc: Global, command: Command<'a>) -> Result<Command<'a>, All
         .arg(number_option(alloc, "seed", (0, MAX_SEED), "1", help::SEED_HELP))
 }
 
-// Adds the options for the percentage of enqueues and for two sizes, and the flag for a quiet answer.
+// Adds the options for the percentage of enqueues and for the producers.
+fn with_kinds<'a>(alloc: Global, command: Command<'a>) -> Result<Command<'a>, AllocError>
+    requires { (out-Command command).has_globals ≡ false }
+    ensures app { IfOk result (λ c. app_of c ≡ with_kinds (app_of command.entry)) }
+    ensures local { IfOk result (λ c. (out-Command c).has_globals ≡ false) }
+{
+    command
+        .arg(number_option(alloc, "percent", (0, 100), "50", help::PERCENT_HELP))?
+        .arg(number_option(
+            alloc,
+            "producers",
+            (0, MAX_WORKERS as u64),
+            "0",
+            help::PRODUCERS_HELP,
+        ))
+}
+
+// Adds the options for two sizes, and the flag for a quiet answer.
 fn with_sizes<'a>(alloc: Global, command: Command<'a>) -> Result<Command<'a>, AllocError>
     requires { (out-Command command).has_globals ≡ false }
     ensures app { IfOk result (λ c. app_of c ≡ with_sizes (app_of command.entry)) }
     ensures local { IfOk result (λ c. (out-Command c).has_globals ≡ false) }
 {
     command
-        .arg(number_option(alloc, "percent", (0, 100), "50", help::PERCENT_HELP))?
         .arg(number_option(
             alloc,
             "ring",

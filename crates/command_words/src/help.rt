@@ -394,6 +394,10 @@ run at the same time.
 With `--local` or `--weak-empty` the run is judged under that condition, as by
 `check`.
 
+With `--producers K` the first K workers only enqueue and the others only
+dequeue; `--seed` and `--percent` don't matter then. With 0, the default, each
+worker enqueues and dequeues, as they say.
+
 With `--initial K` the queue is given the values 274877906944, 274877906945, ..
 before any worker starts, K of them, and the text of the history is of version
 2. Where the queue has no room for one of them, `FAULT Preload PLACE` says for
@@ -430,11 +434,13 @@ pub(crate) const QUEUE_HELP: &str = "Name of the queue";
 
 pub(crate) const THREADS_HELP: &str = "Workers, 1 to 32";
 
-pub(crate) const OPERATIONS_HELP: &str = "Operations of each worker, 0 to 100000";
+pub(crate) const OPERATIONS_HELP: &str = "Operations per worker, 0 to 100000";
 
 pub(crate) const SEED_HELP: &str = "Seed of the plan, 0 to 4294967295";
 
 pub(crate) const PERCENT_HELP: &str = "Enqueues in a hundred calls, 0 to 100";
+
+pub(crate) const PRODUCERS_HELP: &str = "Workers that only enqueue, 0 to 32";
 
 pub(crate) const RING_HELP: &str = "Events that a ring holds, 2 to 65536";
 

@@ -165,6 +165,9 @@ pub struct StressOptions<'a> {
     pub seed: u64,
     /// The approximate percentage of enqueues, 0 to 100.
     pub percent: u8,
+    /// The number of workers that only enqueue, 0 to 32. The others only dequeue. If it is 0, each worker enqueues
+    /// and dequeues, by the seed and the percentage.
+    pub producers: usize,
     /// The capacity of each worker's ring, 2 to 65,536 events.
     pub ring: usize,
     /// The number of values that the queue holds before the run, 0 to 1,000.
@@ -188,6 +191,7 @@ pub(crate) fn stress_options<'a>(matches: &ArgMatches<'a>) -> StressOptions<'a>
         operations: number(matches, "ops") as usize,
         seed: number(matches, "seed"),
         percent: number(matches, "percent") as u8,
+        producers: number(matches, "producers") as usize,
         ring: number(matches, "ring") as usize,
         initial: number(matches, "initial") as usize,
         condition: judged_condition(matches),

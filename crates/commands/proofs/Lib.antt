@@ -7,6 +7,7 @@
 -- verdict that `shrink` wrote. An honest schedule that is done is answered by `YES`.
 -- Shrinking: what is shown of a part of a history is minimal for its condition.
 -- Drawings: an input is drawn in one way, and a history on its own as if its verdict followed it.
+-- Planned: a proved queue runs only plans that it can run.
 mod Common
 pub mod Inputs
 pub mod Conditions
@@ -14,3 +15,4 @@ pub mod OneAnswer
 pub mod Shrinking
 pub mod Completions
 pub mod Drawings
+pub mod Planned

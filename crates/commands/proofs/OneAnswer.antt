@@ -35,7 +35,7 @@ use Rattle.commands.specs.Evidence.{SimulatedIsChecked, SimulatedIsValid, Stress
 use Rattle.commands.specs.Judging.{FaultOr, IsEvident, IsFaulty, IsOfVerdictUnder, IsShrunkPart, ShrinksBy}
 use Rattle.verdicts.specs.Selection.{contents_of}
 use Rattle.commands.specs.Judging.{IsOfValue, IsPlayed, IsShrunk, IsVerdictClaim, Shrinks, Simulates, SimulatesIn}
-use Rattle.commands.specs.Stressing.{first_values, IsFirstNamed, IsShownRun, run_history, run_version, RunsOrFails}
+use Rattle.commands.specs.Stressing.{first_values, IsFirstNamed, IsPlanned, IsShownRun, run_history, run_version, RunsOrFails}
 use Rattle.commands.specs.declared.stress.TheConstants.{TRIES}
 use Rattle.event_records.specs.Question.{Question}
 use Rattle.event_records.specs.declared.kind.Answer.{Answer}
@@ -65,7 +65,6 @@ use Rattle.stress_run.specs.Preloaded.{AreTaken, IsFirstRefused}
 use Rattle.stress_run.specs.Recorded.{RecordedView}
 use Rattle.stress_run.specs.declared.faults.RunFault.{RunFault}
 use Rattle.stress_run.specs.declared.faults.RunFault.TheVariants.{Preload}
-use Rattle.workloads.specs.Seeds.{IsSeeded}
 use Rattle.history_merge.proofs.Faults.{complete_has_no_fault, one_first_fault}
 use Rattle.history_merge.specs.Faults.{IsFirstFault}
 use Rattle.history_merge.specs.declared.fault.HistoryFault.{HistoryFault}
@@ -144,14 +143,14 @@ first_values_are_names count few = grind (arith, length-range_with_len, get_or-r
 
 -- what is answered of the lists that a run recorded is what `stress` answers
 pub recorded_run : (may : Question → Answer → Type 0) (may_preload : ℕ → ℕ → Bool → Type 0) (settings : Settings) (plan : List (List Kind))
-    → IsSeeded settings.seed settings.threads settings.operations settings.percent plan
+    → IsPlanned settings plan
     → (recorded : RecordedView) → IsRun may plan recorded.lists recorded.total → AreRecorded recorded.lists
     → (given : List ℕ) → given ≡ first_values settings.initial → Replays settings.ring given recorded.lists → AreTaken may_preload given
     → (answer : Reply) → AnswersOrNoMemory (IsShownRun settings.condition settings.initial) recorded.lists answer → RunsOrFails may may_preload settings answer
-recorded_run may may_preload settings plan seeded recorded run are_recorded given first replays taken answer (inl found) = inl (record {
+recorded_run may may_preload settings plan planned recorded run are_recorded given first replays taken answer (inl found) = inl (record {
   preloaded = subst (AreTaken may_preload) first taken;
   plan = plan;
-  seeded = seeded;
+  planned = planned;
   lists = recorded.lists;
   total = recorded.total;
   run = run;
@@ -159,19 +158,19 @@ recorded_run may may_preload settings plan seeded recorded run are_recorded give
   replays = subst (λ initial. Replays settings.ring initial recorded.lists) first replays;
   answered = found;
 })
-recorded_run may may_preload settings plan seeded recorded run are_recorded given first replays taken answer (inr memory) = inr (inr memory)
+recorded_run may may_preload settings plan planned recorded run are_recorded given first replays taken answer (inr memory) = inr (inr memory)
 
 -- a fault of a run on a queue that was given these values is what `stress` answers
 pub failed_run : (may : Question → Answer → Type 0) (may_preload : ℕ → ℕ → Bool → Type 0) (settings : Settings) (plan : List (List Kind)) (fault : RunFault)
-    → IsWithinRanges settings → IsSeeded settings.seed settings.threads settings.operations settings.percent plan
+    → IsWithinRanges settings → IsPlanned settings plan
     → (given : List ℕ) → given ≡ first_values settings.initial → IsFaultOfRun may given plan (record { ring = settings.ring; tries = TRIES }) fault
     → ((place : ℕ) → fault ≡ Preload place → IsFirstRefused may_preload given place) → RunsOrFails may may_preload settings (run_fault fault)
-failed_run may may_preload settings plan fault ranges seeded given first is_fault is_refused =
+failed_run may may_preload settings plan fault ranges planned given first is_fault is_refused =
     let sizes : SizesView = record { ring = settings.ring; tries = TRIES } in
     let of_run = subst (λ initial. IsFaultOfRun may initial plan sizes fault) first is_fault in
     inr (inl (record {
       plan = plan;
-      seeded = seeded;
+      planned = planned;
       fault = fault;
       of_run = of_run;
       within = λ limit. subst (IsFaultOfRun may (first_values settings.initial) plan sizes) limit of_run

@@ -50,8 +50,10 @@ pub data Reply : Type 0 where
   refused_size : Reply
   -- the verdict has a linearization for each producer, so there is no single one to draw
   refused_orders : Reply
-  -- the words are refused: no queue has this name, or there are too many operations
+  -- the words are refused: no queue has this name, the queue is for one producer and one consumer, or there are too
+  -- many operations
   refused_queue : Reply
+  refused_roles : Reply
   refused_limit : Reply
   -- a read failed, memory ran out, or a run gave no history
   read_fault : Reply
@@ -103,6 +105,7 @@ answer_text (refused_history fault) =
 answer_text refused_size = line (beginning true ++ codes "Size")
 answer_text refused_orders = line (beginning true ++ codes "Orders")
 answer_text refused_queue = line (beginning true ++ codes "Queue")
+answer_text refused_roles = line (beginning true ++ codes "Roles")
 answer_text refused_limit = line (beginning true ++ codes "Limit")
 answer_text read_fault = line (beginning false ++ codes "Read")
 answer_text memory_fault = line (beginning false ++ codes "Memory")
@@ -149,6 +152,7 @@ answer_status (refused_history fault) = fault_status true
 answer_status refused_size = fault_status true
 answer_status refused_orders = fault_status true
 answer_status refused_queue = fault_status true
+answer_status refused_roles = fault_status true
 answer_status refused_limit = fault_status true
 answer_status read_fault = fault_status false
 answer_status memory_fault = fault_status false

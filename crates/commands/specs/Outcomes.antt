@@ -17,11 +17,12 @@ use Rattle.commands.specs.declared.outcome.Report.TheVariants.{Judged, Shown, Le
 use Rattle.commands.specs.declared.outcome.Report.TheVariants.{Completed, Counted}
 use Rattle.commands.specs.declared.outcome.Report.TheVariants.{Drawn, Overtaken}
 use Rattle.commands.specs.declared.outcome.Fault.{Fault}
-use Rattle.commands.specs.declared.outcome.Fault.TheVariants.{Text, History, Size, Orders, Queue, Limit, Memory, Run}
+use Rattle.commands.specs.declared.outcome.Fault.TheVariants.{Text, History, Size, Orders, Queue, Roles, Limit}
+use Rattle.commands.specs.declared.outcome.Fault.TheVariants.{Memory, Run}
 use Rattle.commands.specs.Answers.{Reply, judged, shown, left_open, played, verified, converted, counted, overtaken}
 use Rattle.commands.specs.Answers.{drawn, refused_orders, refused_size}
-use Rattle.commands.specs.Answers.{refused_queue, refused_limit, memory_fault, run_fault, answer_of_text_fault}
-use Rattle.commands.specs.Answers.{answer_of_history_fault}
+use Rattle.commands.specs.Answers.{refused_queue, refused_roles, refused_limit, memory_fault, run_fault}
+use Rattle.commands.specs.Answers.{answer_of_text_fault, answer_of_history_fault}
 
 -- the answer that is printed for what was found: for a verdict its claim, for the rest the same
 abbrev pub answer_of_report : Report → Reply
@@ -46,6 +47,7 @@ answer_of_fault (History incomplete) = answer_of_history_fault incomplete.fault
 answer_of_fault Size = refused_size
 answer_of_fault Orders = refused_orders
 answer_of_fault Queue = refused_queue
+answer_of_fault Roles = refused_roles
 answer_of_fault Limit = refused_limit
 answer_of_fault Memory = memory_fault
 answer_of_fault (Run fault) = run_fault fault
@@ -73,6 +75,7 @@ name_of (History incomplete) = history_names.name_of incomplete.fault
 name_of Size = codes "Size"
 name_of Orders = codes "Orders"
 name_of Queue = codes "Queue"
+name_of Roles = codes "Roles"
 name_of Limit = codes "Limit"
 name_of Memory = codes "Memory"
 name_of (Run fault) = run_names.name_of fault

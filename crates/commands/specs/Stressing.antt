@@ -1,5 +1,5 @@
 -- What `stress` answers: it reads nothing, and runs the first queue of a name.
-use Rattle.std.specs.Prelude.{◌≡◌, ◌≢◌, ℕ, ◌*◌, ◌==◌, ◌≤◌, if◌then◌else◌, Bool, List, ◌∷◌, ◌++◌, All, ◌⊎◌, codes}
+use Rattle.std.specs.Prelude.{◌≡◌, ◌≢◌, ℕ, ◌*◌, ◌==◌, ◌≤◌, min, if◌then◌else◌, Bool, List, ◌∷◌, ◌++◌, All, ◌⊎◌, codes}
 use Rattle.std.specs.List.{range_with_len}
 use Rattle.event_records.specs.declared.event.Event.{Event}
 use Rattle.event_records.specs.declared.kind.Kind.{Kind}
@@ -12,18 +12,21 @@ use Rattle.history_text.specs.declared.version.Version.{Version}
 use Rattle.history_text.specs.declared.version.Version.TheVariants.{One, Two}
 use Rattle.history_text.specs.Versions.{said_in}
 use Rattle.recorder_core.specs.Replay.{AreRecorded, Replays}
+use Rattle.workloads.specs.Roles.{IsOfRoles}
 use Rattle.workloads.specs.Seeds.{IsSeeded}
 use Rattle.stress_run.specs.declared.faults.RunFault.{RunFault}
 use Rattle.stress_run.specs.declared.faults.RunFault.TheVariants.{Limit, Preload}
 use Rattle.stress_run.specs.Operations.{IsRun}
 use Rattle.stress_run.specs.Failed.{IsFaultOfRun}
 use Rattle.stress_run.specs.Preloaded.{AreTaken, IsFirstRefused}
+use Rattle.stress_run.specs.declared.proving.ProvedQueue.{ProvedQueue}
+use Rattle.stress_run.specs.declared.proving.ProvedQueue.TheVariants.{OneLock, TwoLocks, LockFree, Ring}
 use Rattle.command_words.specs.Options.{Settings}
 use Rattle.command_words.specs.declared.options.Condition.{Condition}
 use Rattle.commands.specs.declared.stress.TheConstants.{TRIES}
 use Rattle.queue_interface.specs.Answers.{AnswersInKind, TakesOrRefuses}
-use Rattle.commands.specs.Answers.{Reply, ShowsNoViolation, shown, refused_queue, refused_limit, memory_fault}
-use Rattle.commands.specs.Answers.{run_fault}
+use Rattle.commands.specs.Answers.{Reply, ShowsNoViolation, shown, refused_queue, refused_roles, refused_limit}
+use Rattle.commands.specs.Answers.{memory_fault, run_fault}
 use Rattle.commands.specs.Judging.{IsOfVerdictUnder, Whether}
 
 -- x is the first element of the list that this name fits
@@ -54,12 +57,19 @@ pub record IsShownRun (condition : Condition) (count : ℕ) (lists : List (List 
   pub answered : IsOfVerdictUnder condition (run_history count events)
       (shown (said_in (run_version count) (run_history count events))) answer
 
--- a run of the seed's plan on a queue that may answer so and took the first values: its lists by ticket, with their
--- verdict
-pub record IsRecordedRun (may : Question → Answer → Type 0) (may_preload : ℕ → ℕ → Bool → Type 0) (settings : Settings) (answer : Reply) : Type 0 where
+-- the plan that the settings ask for: without producers the seed's, else one of so many producers, all workers if they
+-- are no more
+abbrev pub IsPlanned : Settings → List (List Kind) → Type 0
+IsPlanned settings plan = Whether (settings.producers ≡ 0)
+    (IsSeeded settings.seed settings.threads settings.operations settings.percent plan)
+    (IsOfRoles settings.threads (min settings.producers settings.threads) settings.operations plan)
+
+-- a run of the plan on a queue that may answer so and took the first values: its lists by ticket, with their verdict
+pub record IsRecordedRun (may : Question → Answer → Type 0) (may_preload : ℕ → ℕ → Bool
+    → Type 0) (settings : Settings) (answer : Reply) : Type 0 where
   pub preloaded : AreTaken may_preload (first_values settings.initial)
   pub plan : List (List Kind)
-  pub seeded : IsSeeded settings.seed settings.threads settings.operations settings.percent plan
+  pub planned : IsPlanned settings plan
   pub lists : List (List Event)
   pub total : ℕ
   pub run : IsRun may plan lists total
@@ -67,11 +77,12 @@ pub record IsRecordedRun (may : Question → Answer → Type 0) (may_preload : �
   pub replays : Replays settings.ring (first_values settings.initial) lists
   pub answered : IsShownRun settings.condition settings.initial lists answer
 
--- no history: a fault that a run of the seed's plan may have, on a queue that may answer so, with rings and tries of
--- these sizes; the place that it names is that of the first value which the queue refused
-pub record IsFailedRun (may : Question → Answer → Type 0) (may_preload : ℕ → ℕ → Bool → Type 0) (settings : Settings) (answer : Reply) : Type 0 where
+-- no history: a fault that a run of the plan may have, on a queue that may answer so, with rings and tries of these
+-- sizes; the place that it names is that of the first value which the queue refused
+pub record IsFailedRun (may : Question → Answer → Type 0) (may_preload : ℕ → ℕ → Bool
+    → Type 0) (settings : Settings) (answer : Reply) : Type 0 where
   pub plan : List (List Kind)
-  pub seeded : IsSeeded settings.seed settings.threads settings.operations settings.percent plan
+  pub planned : IsPlanned settings plan
   pub fault : RunFault
   pub of_run : IsFaultOfRun may (first_values settings.initial) plan
       (record { ring = settings.ring; tries = TRIES }) fault
@@ -91,16 +102,37 @@ StressesQueue may may_preload settings answer =
     Whether (settings.threads * settings.operations ≤ MAX_OPERATIONS) (RunsOrFails may may_preload settings answer)
     (answer ≡ refused_limit)
 
--- the name of a proved queue: a list under one lock, nodes with a lock for each end, or nodes without a lock
-abbrev pub IsProvedName : List ℕ → Type 0
-IsProvedName name = (name ≡ codes "proved") ⊎ ((name ≡ codes "proved-two-lock") ⊎ (name ≡ codes "proved-lock-free"))
+-- the name of a proved queue
+abbrev pub proved_name : ProvedQueue → List ℕ
+proved_name OneLock = codes "proved"
+proved_name TwoLocks = codes "proved-two-lock"
+proved_name LockFree = codes "proved-lock-free"
+proved_name Ring = codes "proved-ring"
 
--- of a name that no queue of the shelf has: the run of a proved queue shows no violation, and any other name is
--- refused
+-- some proved queue has this name
+abbrev pub IsProvedName : List ℕ → Type 0
+IsProvedName name = (queue : ProvedQueue) × (name ≡ proved_name queue)
+
+-- one producer and one consumer: one worker alone, or two of which one is a producer
+abbrev pub AsksForOneOfEach : Settings → Type 0
+AsksForOneOfEach settings = (settings.threads ≡ 1) ⊎ ((settings.threads ≡ 2) × (settings.producers ≡ 1))
+
+-- a proved queue can run the plan of the settings: a ring only one with one producer and one consumer
+abbrev pub SuitsRoles : ProvedQueue → Settings → Type 0
+SuitsRoles queue settings = queue ≡ Ring → AsksForOneOfEach settings
+
+-- the run of a proved queue shows no violation; a plan that the queue can't run is refused
+abbrev pub StressesProved : ProvedQueue → Settings → Reply → Type 0
+StressesProved queue settings answer = Whether (SuitsRoles queue settings)
+    (StressesQueue AnswersInKind (λ _. TakesOrRefuses) settings answer
+        × ShowsNoViolation answer) (answer ≡ refused_roles)
+
+-- of a name that no queue of the shelf has: the proved queue of the name is run, and a name that no proved queue has
+-- is refused
 abbrev pub StressesUnshelved : Settings → Reply → Type 0
-StressesUnshelved settings answer = Whether (IsProvedName settings.queue)
-    (StressesQueue AnswersInKind (λ _. TakesOrRefuses) settings answer × ShowsNoViolation answer)
-    (answer ≡ refused_queue)
+StressesUnshelved settings answer =
+    ((queue : ProvedQueue) × (settings.queue ≡ proved_name queue) × StressesProved queue settings answer)
+    ⊎ ((¬ IsProvedName settings.queue) × (answer ≡ refused_queue))
 
 -- `stress` on a shelf of queues with names: the first of the name is run
 abbrev pub Stresses : {X : Type 0} → (X → List ℕ) → (X → Question → Answer → Type 0) → (X → ℕ → ℕ → Bool → Type 0)

@@ -22,6 +22,7 @@ impl Fault {
             Fault::Size => "Size",
             Fault::Orders => "Orders",
             Fault::Queue => "Queue",
+            Fault::Roles => "Roles",
             Fault::Limit => "Limit",
             Fault::Memory => "Memory",
             Fault::Run(fault) => fault.name(),
@@ -36,7 +37,8 @@ impl Fault {
             Fault::Text(fault) => fault.line(),
             Fault::History(incomplete) => incomplete.fault.place(),
             Fault::Run(fault) => fault.place(),
-            Fault::Size | Fault::Orders | Fault::Queue | Fault::Limit | Fault::Memory => None,
+            Fault::Size | Fault::Orders | Fault::Queue | Fault::Roles => None,
+            Fault::Limit | Fault::Memory => None,
         }
     }
 

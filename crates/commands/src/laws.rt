@@ -49,6 +49,7 @@ pub fn one_answer()
 
 /// No false alarm of threads: if no queue of the shelf has the name of a proved queue, the answer of `stress` for that
 /// name shows no violation.
+#[tactic(auto, using(crate::proofs::Planned::no_violation))]
 pub fn runs_of_proved_queues_are_linearizable()
     ensures { (settings : Settings) (answer : Reply) → IsProvedName settings.queue → StressesUnshelved settings answer
         → ShowsNoViolation answer }

@@ -58,6 +58,8 @@ pub enum Fault {
     Orders,
     /// No queue has the name that was asked for.
     Queue,
+    /// The queue is for one producer and one consumer, and more were asked for.
+    Roles,
     /// More operations were asked for than a run may have, or a completion is beyond the limits of a history.
     Limit,
     /// Memory ran out.

@@ -119,6 +119,7 @@ fn complaint_of<'a>(
             name: options.queue,
             names,
         },
+        (Fault::Roles, _) => Complaint::Roles,
         (Fault::Limit, Task::Stress(options)) => Complaint::Limit {
             threads: options.threads as u64,
             operations: options.operations as u64,
@@ -152,7 +153,7 @@ fn message_of<'b, 'a, S>(
         _ => return sentence(alloc, &Complaint::Write),
     };
     let on_shelf = ended.shelf.iter().map(|shelved| shelved.name);
-    let names: Vec<&str> = ["proved", "proved-two-lock", "proved-lock-free"]
+    let names: Vec<&str> = ["proved", "proved-two-lock", "proved-lock-free", "proved-ring"]
         .into_iter()
         .chain(on_shelf)
         .collect(alloc)?;

@@ -1,18 +1,18 @@
 //! `stress`: a recorded run of a queue, and its verdict.
-ghost use Rattle.std.specs.Prelude.{◌≡◌, ◌≢◌, ◌≤◌, ◌*◌, IfOk, IfSome, IfNone, List, All};
+ghost use Rattle.std.specs.Prelude.{◌≡◌, ◌≢◌, ◌≤◌, ◌↔◌, ◌*◌, IsTrue, IfOk, IfSome, IfNone, List, All};
 ghost use Rattle.event_records.specs.declared.event.Event.{Event};
 ghost use Rattle.event_records.specs.declared.limits.TheConstants.{MAX_OPERATIONS, MAX_STRESS_INITIAL};
 ghost use Rattle.history_merge.specs.Legal.{IsLinearizable};
 ghost use Rattle.history_merge.specs.Merge.{IsMerged};
 ghost use Rattle.history_merge.specs.Operations.{operations_of};
-ghost use Rattle.workloads.specs.Seeds.{IsSeeded};
 ghost use Rattle.queue_interface.specs.Answers.{AnswersInKind, TakesOrRefuses};
 ghost use Rattle.command_words.specs.Options.{settings_of, IsWithinRanges};
 ghost use Rattle.commands.specs.Answers.{ShowsNoViolation};
 ghost use Rattle.commands.specs.Judging.{AnswersOrNoMemory};
 ghost use Rattle.commands.specs.Outcomes.{answer_of, NamesPlaces};
-ghost use Rattle.commands.specs.Stressing.{IsFirstNamed, IsProvedName, IsShownRun, RunsOrFails, Stresses};
-ghost use Rattle.commands.specs.Stressing.{StressesQueue, StressesUnshelved, first_values, run_version};
+ghost use Rattle.commands.specs.Stressing.{AsksForOneOfEach, IsFirstNamed, IsPlanned, IsProvedName, IsShownRun};
+ghost use Rattle.commands.specs.Stressing.{RunsOrFails, Stresses, StressesQueue, StressesUnshelved};
+ghost use Rattle.commands.specs.Stressing.{SuitsRoles, first_values, proved_name, run_version};
 
 use crate::histories::PIECES;
 use crate::judging::decide_under;
@@ -75,7 +75,7 @@ fn find<'b, 'a>(shelf: &'b [NamedQueue<'a>], name: &str) -> Option<&'b NamedQueu
 
 /// Returns the proved queue of this name.
 fn proved_of(name: &str) -> Option<ProvedQueue>
-    ensures named { IfSome result (λ _. IsProvedName name.now) }
+    ensures named { IfSome result (λ queue. name.now ≡ proved_name queue) }
     ensures other { IfNone result (¬ IsProvedName name.now) }
 {
     if name == "proved" {
@@ -87,10 +87,30 @@ fn proved_of(name: &str) -> Option<ProvedQueue>
     if name == "proved-lock-free" {
         return Some(ProvedQueue::LockFree);
     }
+    if name == "proved-ring" {
+        return Some(ProvedQueue::Ring);
+    }
     None
 }
 
-/// Runs the proved queue of a name that no queue of the shelf has, if there is one.
+/// Returns whether the plan has at most one producer and at most one consumer.
+fn asks_for_one_of_each<'a>(options: &StressOptions<'a>) -> bool
+    ensures { IsTrue result ↔ AsksForOneOfEach (settings_of options.now) }
+{
+    options.threads == 1 || (options.threads == 2 && options.producers == 1)
+}
+
+/// Returns whether the queue can run the plan.
+fn suits_roles<'a>(queue: ProvedQueue, options: &StressOptions<'a>) -> bool
+    ensures { IsTrue result ↔ SuitsRoles queue (settings_of options.now) }
+{
+    match queue {
+        ProvedQueue::Ring => asks_for_one_of_each(options),
+        ProvedQueue::OneLock | ProvedQueue::TwoLocks | ProvedQueue::LockFree => true,
+    }
+}
+
+/// Runs the proved queue of a name that no queue of the shelf has, if there is one that can run the plan.
 fn stress_unshelved<'a, R: Threads + Wait + Sync>(
     rt: &R,
     alloc: Global,
@@ -100,10 +120,13 @@ fn stress_unshelved<'a, R: Threads + Wait + Sync>(
     ensures found { StressesUnshelved (settings_of options.now) (answer_of result) }
     ensures places { NamesPlaces result }
 {
-    match proved_of(options.queue) {
-        Some(queue) => stress_proved(rt, alloc, queue, options),
-        None => Err(Fault::Queue),
+    let Some(queue) = proved_of(options.queue) else {
+        return Err(Fault::Queue);
+    };
+    if !suits_roles(queue, options) {
+        return Err(Fault::Roles);
     }
+    stress_proved(rt, alloc, queue, options)
 }
 
 /// Runs a queue of the shelf, and judges the recorded history.
@@ -124,7 +147,7 @@ fn stress_shelved<'a, R: Threads + Sync>(
     run_plan(rt, alloc, &*shelved.queue, options)
 }
 
-/// Runs the seed's plan on a queue, and judges the recorded history.
+/// Runs the plan on a queue, and judges the recorded history.
 fn run_plan<'a, R: Threads + Sync>(
     rt: &R,
     alloc: Global,
@@ -148,7 +171,8 @@ fn stress_proved<'a, R: Threads + Wait + Sync>(
     queue: ProvedQueue,
     options: &StressOptions<'a>,
 ) -> Outcome
-    requires { IsWithinRanges (settings_of options.now) }
+    requires ranges { IsWithinRanges (settings_of options.now) }
+    requires roles { SuitsRoles queue (settings_of options.now) }
     ensures found { StressesQueue AnswersInKind (λ _. TakesOrRefuses) (settings_of options.now) (answer_of result) }
     ensures linearizable { ShowsNoViolation (answer_of result) }
     ensures places { NamesPlaces result }
@@ -161,22 +185,36 @@ fn stress_proved<'a, R: Threads + Wait + Sync>(
     judge_run(rt, alloc, &recorded, options.initial, options.condition)
 }
 
-/// Returns the seed's plan and the initial values.
+/// Returns the plan and the initial values.
 fn plan_of<'a>(alloc: Global, options: &StressOptions<'a>) -> Result<(Plan, Vec<u64>), AllocError>
     requires ranges { IsWithinRanges (settings_of options.now) }
     requires few { options.now.threads * options.now.operations ≤ MAX_OPERATIONS }
-    ensures seeded { IfOk result (λ made. IsSeeded options.now.seed options.now.threads options.now.operations options.now.percent made.0) }
+    ensures planned { IfOk result (λ made. IsPlanned (settings_of options.now) made.0) }
     ensures first { IfOk result (λ made. made.1.items ≡ first_values options.now.initial) }
 {
-    let plan = Plan::from_seed(
-        alloc,
-        options.seed,
-        options.threads,
-        options.operations,
-        options.percent,
-    )?;
+    let plan = make_plan(alloc, options)?;
     let initial = first_values(alloc, options.initial)?;
     Ok((plan, initial))
+}
+
+/// Makes the plan: without producers that of the seed, else one in which the first workers only enqueue and the others
+/// only dequeue.
+fn make_plan<'a>(alloc: Global, options: &StressOptions<'a>) -> Result<Plan, AllocError>
+    requires ranges { IsWithinRanges (settings_of options.now) }
+    requires few { options.now.threads * options.now.operations ≤ MAX_OPERATIONS }
+    ensures { IfOk result (IsPlanned (settings_of options.now)) }
+{
+    if options.producers == 0 {
+        return Plan::from_seed(
+            alloc,
+            options.seed,
+            options.threads,
+            options.operations,
+            options.percent,
+        );
+    }
+    let producers = options.producers.min(options.threads);
+    Plan::of_roles(alloc, options.threads, producers, options.operations)
 }
 
 /// Judges the recorded history of a run that began with `count` initial values.

@@ -166,6 +166,16 @@ fn from_seed_example(rt: HostRuntime) -> Result<(), Fail> {
     Ok(())
 }
 
+#[test]
+fn of_roles_example(rt: HostRuntime) -> Result<(), Fail> {
+    let alloc = rt.alloc();
+
+    let plan = Plan::of_roles(alloc, 2, 1, 1000)?;
+    assert_eq!(rt; plan.rows().len(), 2);
+    assert_eq!(rt; plan.operations(), 2000);
+    Ok(())
+}
+
 /// A queue with room for one value.
 #[derive(Drop)]
 struct OneSlot<R: Wait + Drop> {

@@ -45,6 +45,8 @@ pub enum Complaint<'a> {
     Orders,
     /// No queue has this name; these are the names that there are.
     Queue { name: &'a str, names: &'a [&'a str] },
+    /// The queue is for one producer and one consumer, and more were asked for.
+    Roles,
     /// The threads have more operations together than a run may have.
     Limit { threads: u64, operations: u64 },
     /// The completion of a history has more events than a history may have, or a ticket above the greatest.

@@ -59,11 +59,22 @@ fn queue_message(alloc: Global, name: &str, names: &[&str]) -> Result<Message, A
     }
 }
 
+/// Builds the message for a queue that more threads were to use than it serves.
+fn roles_message(alloc: Global) -> Result<Message, AllocError> {
+    Message::of(
+        alloc,
+        "proved-ring is a queue for one producer and one consumer",
+        &[],
+        "give it --threads 2 --producers 1, or --threads 1",
+    )
+}
+
 /// Builds the message for a run that gave no history.
 fn run_message(alloc: Global, fault: RunFault) -> Result<Message, AllocError> {
     match fault {
         RunFault::Memory => Message::of(alloc, "memory ran out", &[], ""),
         RunFault::Limit => Message::of(alloc, "the run is larger than a run may be", &[], ""),
+        RunFault::Roles => roles_message(alloc),
         RunFault::Stalled(thread) => Message::of(
             alloc,
             "the ring of thread {} stayed full: its events weren't collected in time",
@@ -152,6 +163,7 @@ fn message_of(alloc: Global, complaint: &Complaint<'_>) -> Result<Message, Alloc
         Complaint::Size => size_message(alloc),
         Complaint::Orders => orders_message(alloc),
         Complaint::Queue { name, names } => queue_message(alloc, name, names),
+        Complaint::Roles => roles_message(alloc),
         Complaint::Limit {
             threads,
             operations,

@@ -23,5 +23,6 @@ pub record HasSettings (rows : List Row) : Type 0 where
   pub operations : HasNumber (codes "ops") 0 MAX_THREAD_OPERATIONS rows
   pub seed : HasNumber (codes "seed") 0 MAX_SEED rows
   pub percent : HasNumber (codes "percent") 0 100 rows
+  pub producers : HasNumber (codes "producers") 0 MAX_WORKERS rows
   pub ring : HasNumber (codes "ring") MIN_RING MAX_RING rows
   pub initial : HasNumber (codes "initial") 0 MAX_STRESS_INITIAL rows

@@ -32,7 +32,8 @@ fn the_least_fault_is_answered(rt: HostRuntime) {
     }
 }
 
-const TEXTS: [(RunFault, &str); 3] = [
+const TEXTS: [(RunFault, &str); 4] = [
+    (RunFault::Roles, "Roles"),
     (RunFault::Memory, "Memory"),
     (RunFault::Stalled(3), "Stalled 3"),
     (RunFault::Preload(7), "Preload 7"),

@@ -79,6 +79,7 @@ fn proved_end_so<R: Threads + Wait + Sync>(
         ProvedQueue::OneLock,
         ProvedQueue::TwoLocks,
         ProvedQueue::LockFree,
+        ProvedQueue::Ring,
     ] {
         let ended = run_proved(rt, alloc, queue, initial, plan, ring, tries).err();
         if ended != proved {

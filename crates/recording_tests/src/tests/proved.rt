@@ -1,11 +1,11 @@
 // Runs on the proved queues.
-use event_records::What::{CallDeq, CallEnq, RetDeq, RetEmpty, RetEnq};
+use event_records::What::{CallDeq, CallEnq, RetDeq, RetEmpty, RetEnq, RetNot};
 use event_records::{Event, LEAST_INITIAL_NAME, Lists, What};
 use std::alloc::Global;
 use std::sync::Wait;
 use std::test::Fail;
 use std::thread::Threads;
-use stress_run::{ProvedQueue, run_proved};
+use stress_run::{ProvedQueue, RING_PLACES, RunFault, run_proved};
 use workloads::Plan;
 
 // The events of a worker's plan `EDEDDD` on a queue with one initial value.
@@ -58,7 +58,7 @@ fn a_list_under_one_lock_gives_the_first_value(rt: HostRuntime) -> Result<(), Fa
 }
 
 #[test]
-fn nodes_with_two_locks_give_the_first_value(rt: HostRuntime) -> Result<(), Fail> {
+fn a_ring_with_two_locks_gives_the_first_value(rt: HostRuntime) -> Result<(), Fail> {
     assert!(rt; run_alone(&rt, rt.alloc(), ProvedQueue::TwoLocks)? == (true, true, 12));
     Ok(())
 }
@@ -66,6 +66,12 @@ fn nodes_with_two_locks_give_the_first_value(rt: HostRuntime) -> Result<(), Fail
 #[test]
 fn nodes_without_a_lock_give_the_first_value(rt: HostRuntime) -> Result<(), Fail> {
     assert!(rt; run_alone(&rt, rt.alloc(), ProvedQueue::LockFree)? == (true, true, 12));
+    Ok(())
+}
+
+#[test]
+fn a_ring_gives_the_first_value(rt: HostRuntime) -> Result<(), Fail> {
+    assert!(rt; run_alone(&rt, rt.alloc(), ProvedQueue::Ring)? == (true, true, 12));
     Ok(())
 }
 
@@ -107,7 +113,7 @@ fn values_of_a_list_under_one_lock_are_dequeued(rt: HostRuntime) -> Result<(), F
 }
 
 #[test]
-fn values_of_nodes_with_two_locks_are_dequeued(rt: HostRuntime) -> Result<(), Fail> {
+fn values_of_a_ring_with_two_locks_are_dequeued(rt: HostRuntime) -> Result<(), Fail> {
     assert!(rt; run_four(&rt, rt.alloc(), ProvedQueue::TwoLocks)? == (true, 16_000));
     Ok(())
 }
@@ -115,5 +121,63 @@ fn values_of_nodes_with_two_locks_are_dequeued(rt: HostRuntime) -> Result<(), Fa
 #[test]
 fn values_of_nodes_without_a_lock_are_dequeued(rt: HostRuntime) -> Result<(), Fail> {
     assert!(rt; run_four(&rt, rt.alloc(), ProvedQueue::LockFree)? == (true, 16_000));
+    Ok(())
+}
+
+// Returns the number of events of this kind.
+fn count_of(list: &[Event], what: What) -> usize {
+    list.iter().filter(|event| event.what == what).count()
+}
+
+// Returns how many enqueues of 100 by one worker succeed on a ring, and how many fail.
+fn fill<R: Threads + Wait + Sync>(rt: &R, alloc: Global) -> Result<(usize, usize), Fail> {
+    let plan = Plan::from_seed(alloc, 1, 1, 100, 100)?;
+    let recorded = run_proved(rt, alloc, ProvedQueue::Ring, &[], &plan, 1024, 1_000)?;
+    let Some(list) = recorded.lists().as_slice().first() else {
+        return Ok((0, 0));
+    };
+    Ok((count_of(list, RetEnq), count_of(list, RetNot)))
+}
+
+#[test]
+fn a_full_ring_fails_enqueues(rt: HostRuntime) -> Result<(), Fail> {
+    assert!(rt; fill(&rt, rt.alloc())? == (RING_PLACES, 100 - RING_PLACES));
+    Ok(())
+}
+
+// Returns whether a consumer dequeued a value of a producer with 2,000 enqueues, and the number of tickets drawn.
+fn pass_on<R: Threads + Wait + Sync>(rt: &R, alloc: Global) -> Result<(bool, u64), Fail> {
+    let plan = Plan::of_roles(alloc, 2, 1, 2_000)?;
+    let recorded = run_proved(rt, alloc, ProvedQueue::Ring, &[], &plan, 4096, 10_000_000)?;
+    Ok((is_any_dequeued(recorded.lists()), recorded.total()))
+}
+
+#[test]
+fn values_of_a_ring_are_dequeued(rt: HostRuntime) -> Result<(), Fail> {
+    assert!(rt; pass_on(&rt, rt.alloc())? == (true, 8_000));
+    Ok(())
+}
+
+// Returns the fault of a run of this plan on a ring.
+fn ring_fault<R: Threads + Wait + Sync>(
+    rt: &R,
+    alloc: Global,
+    text: &str,
+) -> Result<Option<RunFault>, Fail> {
+    let plan = Plan::from_text(alloc, text)?;
+    Ok(run_proved(rt, alloc, ProvedQueue::Ring, &[], &plan, 64, 1_000).err())
+}
+
+#[test]
+fn a_ring_has_one_producer_and_one_consumer(rt: HostRuntime) -> Result<(), Fail> {
+    for text in ["E\nE\n", "D\nE\nD\n", "ED\nD\n"] {
+        assert!(rt;
+            ring_fault(&rt, rt.alloc(), text)? == Some(RunFault::Roles),
+            "{text}"
+        );
+    }
+    for text in ["E\nD\n", "\nD\nE\n", "EDD\n\n"] {
+        assert!(rt; ring_fault(&rt, rt.alloc(), text)?.is_none(), "{text}");
+    }
     Ok(())
 }

@@ -118,6 +118,7 @@ const DEFAULTS: StressOptions<'_> = StressOptions {
     operations: 1000,
     seed: 1,
     percent: 50,
+    producers: 0,
     ring: 1024,
     initial: 0,
     condition: STRICT,
@@ -125,7 +126,7 @@ const DEFAULTS: StressOptions<'_> = StressOptions {
 
 /// All options at their maximum but one, shuffled.
 const GREATEST: &str = "fifobench stress --ring=65536 --percent 0 --seed 4294967295 --ops 100000 \
-    --weak-empty --threads 32 --initial=1000 --queue=two-lock --local";
+    --weak-empty --threads 32 --producers 32 --initial=1000 --queue=two-lock --local";
 
 /// The options of that command line.
 const GREATEST_OPTIONS: StressOptions<'_> = StressOptions {
@@ -134,6 +135,7 @@ const GREATEST_OPTIONS: StressOptions<'_> = StressOptions {
     operations: 100_000,
     seed: 4_294_967_295,
     percent: 0,
+    producers: 32,
     ring: 65_536,
     initial: 1000,
     condition: BOTH,
@@ -174,6 +176,10 @@ fn mistaken_words_are_faults(rt: HostRuntime) -> Result<(), Fail> {
         ),
         (
             "fifobench stress --queue seg --percent 101",
+            ErrorKind::ValueValidation,
+        ),
+        (
+            "fifobench stress --queue seg --producers 33",
             ErrorKind::ValueValidation,
         ),
         (

@@ -17,7 +17,8 @@ returns-clause-settings c =
       operations = c.number-2.ensures i;
       seed = c.number-3.ensures i;
       percent = c.number-4.ensures i;
-      ring = c.number-5.ensures i;
-      initial = c.number-6.ensures i;
+      producers = c.number-5.ensures i;
+      ring = c.number-6.ensures i;
+      initial = c.number-7.ensures i;
       condition = c.judged_condition.ensures i;
     }
