@@ -7,8 +7,10 @@ use Rattle.tickets.specs.declared.note.Effect.{Effect}
 use Rattle.tickets.specs.declared.note.Effect.TheVariants as effect
 use Rattle.tickets.specs.declared.note.Note.{Note}
 use Rattle.tickets.specs.Log.{note_at}
-use Rattle.tickets.specs.Queue.{queue_after, queue_after_one}
+use Rattle.history_merge.specs.declared.operation.OpKind.{OpKind}
+use Rattle.tickets.specs.Queue.{after_each, bounded_after, bounded_after_one, queue_after, queue_after_one}
 use Rattle.history_merge.specs.Queue.{accept, accept_all, IsAccepted}
+use Rattle.stress_run.specs.Bounded.{accept_all_within, accept_within}
 use Rattle.stress_run.specs.Noted.{kind_noted, kinds_noted}
 use Rattle.recorder_core.proofs.Effects.{accept_more}
 
@@ -39,7 +41,23 @@ take_accepts old new v is =
 pub none_accepts : (old new : List ℕ) → old ≡ [] → old ≡ option_to_list None ++ new → accept old (kind_noted effect.Empty) ≡ Some new
 none_accepts old new empty is = ap (λ (q : List ℕ). accept q (kind_noted effect.Empty)) empty ∙ ap (λ (q : List ℕ). Some q) (sym empty ∙ is)
 
--- ---- nodes
+-- ---- a ring, or nodes
+
+-- a step for each effect of a note, and the same for the kind of its operation, lead to the same queue
+same_all : (one : List ℕ → Effect → Option (List ℕ)) (all : List ℕ → List OpKind → Option (List ℕ)) (accepts : List ℕ → OpKind → Option (List ℕ))
+    → ((queue : List ℕ) (e : Effect) → one queue e ≡ accepts queue (kind_noted e)) → ((queue : List ℕ) → all queue [] ≡ Some queue)
+    → ((queue : List ℕ) (k : OpKind) (ks : List OpKind) → all queue (k ∷ ks) ≡ option_and_then (λ next. all next ks) (accepts queue k))
+    → (queue : List ℕ) (notes : List Note) → after_each one queue notes ≡ all queue (kinds_noted notes)
+same_all one all accepts same none more queue [] = sym (none queue)
+same_all one all accepts same none more queue (n ∷ notes) =
+    ap (option_and_then (λ next. after_each one next notes)) (same queue n.effect)
+    ∙ by_first (λ next. same_all one all accepts same none more next notes) (accepts queue (kind_noted n.effect))
+    ∙ sym (more queue (kind_noted n.effect) (kinds_noted notes))
+  where
+    by_first : ((next : List ℕ) → after_each one next notes ≡ all next (kinds_noted notes)) → (o : Option (List ℕ)) →
+        option_and_then (λ next. after_each one next notes) o ≡ option_and_then (λ next. all next (kinds_noted notes)) o
+    by_first later None = refl
+    by_first later (Some next) = later next
 
 same_step : (queue : List ℕ) (e : Effect) → queue_after_one queue e ≡ accept queue (kind_noted e)
 same_step queue (effect.Enq v) = refl
@@ -49,17 +67,22 @@ same_step (x ∷ xs) (effect.Deq v) = refl
 same_step [] effect.Empty = refl
 same_step (x ∷ xs) effect.Empty = refl
 
-same_queue : (queue : List ℕ) (notes : List Note) → queue_after queue notes ≡ accept_all queue (kinds_noted notes)
-same_queue queue [] = refl
-same_queue queue (n ∷ notes) =
-    ap (option_and_then (λ next. queue_after next notes)) (same_step queue n.effect)
-    ∙ by_first (λ next. same_queue next notes) (accept queue (kind_noted n.effect))
-  where
-    by_first : ((next : List ℕ) → queue_after next notes ≡ accept_all next (kinds_noted notes)) → (o : Option (List ℕ)) →
-        option_and_then (λ next. queue_after next notes) o ≡ option_and_then (λ next. accept_all next (kinds_noted notes)) o
-    by_first later None = refl
-    by_first later (Some next) = later next
+same_within : (room : ℕ) (queue : List ℕ) (e : Effect) → bounded_after_one room queue e ≡ accept_within room queue (kind_noted e)
+same_within room queue (effect.Enq v) = refl
+same_within room queue (effect.Not v) = refl
+same_within room queue (effect.Deq v) = same_step queue (effect.Deq v)
+same_within room queue effect.Empty = same_step queue effect.Empty
 
 -- if a queue accepts the effects of notes, it accepts the kinds of their operations
 pub noted_accepted : (queue : List ℕ) (notes : List Note) → IsSome (queue_after queue notes) → IsAccepted queue (kinds_noted notes)
-noted_accepted queue notes some_left = subst IsSome (same_queue queue notes) some_left
+noted_accepted queue notes some_left =
+    subst IsSome (same_all queue_after_one accept_all accept same_step (λ _. refl) (λ _ _ _. refl) queue notes) some_left
+
+-- the same for a bounded queue
+pub noted_within : (room room' : ℕ) (queue queue' : List ℕ) (notes : List Note) → room ≡ room' → queue ≡ queue' → IsSome (bounded_after room queue notes)
+    → IsSome (accept_all_within room' queue' (kinds_noted notes))
+noted_within room room' queue queue' notes same_room same_values some_left =
+    subst (λ (n : ℕ). IsSome (accept_all_within n queue' (kinds_noted notes))) same_room
+    (subst (λ (values : List ℕ). IsSome (accept_all_within room values (kinds_noted notes))) same_values
+    (subst IsSome (same_all (bounded_after_one room) (accept_all_within room) (accept_within room) (same_within room) (λ _. refl) (λ _ _ _. refl) queue notes)
+    some_left))

@@ -17,7 +17,7 @@ use Rattle.event_records.specs.Projection.{projection}
 use Rattle.event_records.specs.Turns.{TakesTurns}
 use Rattle.history_merge.specs.declared.operation.Operation.{Operation}
 use Rattle.history_merge.specs.declared.operation.OpKind.{OpKind}
-use Rattle.history_merge.specs.Legal.{IsLinearizable}
+use Rattle.history_merge.specs.Legal.{IsLegalOrder}
 use Rattle.history_merge.specs.Merge.{IsMerged}
 use Rattle.history_merge.specs.Operations.{Precedes, operations_of, operation_of, kind_of}
 use Rattle.history_merge.specs.Queue.{IsAccepted}
@@ -26,7 +26,7 @@ use Rattle.recorder_core.proofs.Blocks.{blocks, blocks_same, joined_blocks, same
 use Rattle.recorder_core.proofs.Fitting.{AreFit, owned, projection_is}
 use Rattle.recorder_core.proofs.Members.{pairs_cons}
 use Rattle.recorder_core.proofs.Operating.{operations_by_thread}
-use Rattle.stress_run.specs.Noted.{kind_noted, AreNotesOf, AreNotesOfAll}
+use Rattle.stress_run.specs.Noted.{kind_noted, kinds_noted, AreNotesOf, AreNotesOfAll}
 use Rattle.history_merge.proofs.Formed.{no_operation}
 use Rattle.recorder_core.proofs.Collecting.{map_blocks}
 
@@ -196,16 +196,18 @@ module _ (lists : List (List Event)) (notes log : List Note) (merged : List Even
       ∙ sym (map_blocks made_in (λ t. pairs (list_at t) (part_at t)) (length lists))))
 
   -- the order of the log is a linearization
-  pub linearizable : (initial : List ℕ) (next : ℕ) → LooksRise 0 log next → IsAccepted initial (map (λ n. kind_noted n.effect) log)
-      → IsLinearizable initial (operations_of merged)
-  linearizable initial next rise accepted =
+  pub linearized : (initial : List ℕ) (next : ℕ) → LooksRise 0 log next → IsAccepted initial (kinds_noted log)
+      → (order : List Operation) × IsLegalOrder initial (operations_of merged) order × (map (λ o. o.kind) order ≡ kinds_noted log)
+  linearized initial next rise accepted =
       let z = lifted note_in all_pairs log (subst (λ (ns : List Note). IsPermutation ns log) (sym notes_in) logged) in
       let ps = z.0 in
-      let told_ps = All-permutation IsTold all_pairs ps z.1 told_all in (
+      let told_ps = All-permutation IsTold all_pairs ps z.1 told_all in
+      let kinds = kinds_are ps told_ps ∙ ap kinds_noted z.2 in (
         map made_in ps,
         record {
           holds_each_once = IsPermutation-trans _ _ _ operations_in (IsPermutation-map made_in all_pairs ps z.1);
           extends_precedence = in_precedence 0 next ps (subst (λ (ns : List Note). LooksRise 0 ns next) (sym z.2) rise) told_ps;
-          is_accepted = subst (IsAccepted initial) (sym (kinds_are ps told_ps ∙ ap (map (λ (n : Note). kind_noted n.effect)) z.2)) accepted;
+          is_accepted = subst (IsAccepted initial) (sym kinds) accepted;
         },
+        kinds,
       )

@@ -1,6 +1,6 @@
 // Runs of proved queues.
-ghost use Rattle.std.specs.Prelude.{◌≡◌, ◌≢◌, ℕ, ◌*◌, ◌⊎◌, ◌↔◌, List, [], Err, length, sum_by, true, IfOk, IfErr};
-ghost use Rattle.std.specs.Prelude.{IsTrue};
+ghost use Rattle.std.specs.Prelude.{◌≡◌, ◌≢◌, ℕ, ◌*◌, ◌⊎◌, ◌↔◌, List, [], Err, length, sum_by, max, ◌+◌, true, IfOk};
+ghost use Rattle.std.specs.Prelude.{IfErr, IfSome, IsTrue};
 ghost use Rattle.event_records.specs.declared.event.Event.{Event};
 ghost use Rattle.history_merge.specs.Initial.{IsCompleteFrom};
 ghost use Rattle.history_merge.specs.Legal.{IsLinearizable};
@@ -9,10 +9,12 @@ ghost use Rattle.history_merge.specs.Operations.{operations_of};
 ghost use Rattle.queue_interface.specs.Answers.{AnswersInKind};
 ghost use Rattle.recorder_core.specs.Initial.{AreInitialNames};
 ghost use Rattle.recorder_core.specs.Replay.{AreRecorded, Replays};
+ghost use Rattle.stress_run.specs.Bounded.{IsLinearizableWithin, room_of};
 ghost use Rattle.stress_run.specs.Failed.{IsFaultOfRun};
 ghost use Rattle.stress_run.specs.Faults.{IsWithinLimits};
-ghost use Rattle.stress_run.specs.Inner.Proved.{IsProvedRun};
+ghost use Rattle.stress_run.specs.Inner.Proved.{IsProvedRun, IsRunWithin};
 ghost use Rattle.stress_run.specs.Operations.{IsRun};
+ghost use Rattle.stress_run.specs.declared.TheConstants.{RING_PLACES};
 ghost use Rattle.stress_run.specs.declared.faults.RunFault.TheVariants.{Limit, Roles, Memory, Preload};
 ghost use Rattle.stress_run.specs.Roles.{CanRun, HasOneOfEach};
 ghost use Rattle.tickets.specs.Views.{fresh_pass};
@@ -127,12 +129,14 @@ fn run_between<J: OfRun + Send + Sync, R: Threads + Wait + Sync>(
 ) -> Result<Recorded, RunFault>
     requires sizes { IsWithinLimits sizes.ring sizes.tries }
     requires names { AreInitialNames initial.items }
-    requires run { (named.0.key ≡ J.word) × (named.0.ended ≡ true) × (named.0.initial ≡ initial.items) }
+    requires run { (named.0.key ≡ J.word) × (named.0.ended ≡ true) × (named.0.initial ≡ initial.items)
+        × (named.0.room ≡ length initial.items + sum_by length plan.now) }
     requires budget { named.0.budget ≡ 2 * sum_by length plan.now }
     requires pass { named.1 ≡ fresh_pass named.0.key (2 * sum_by length plan.now) }
     requires tail { named.2 ≡ named.0.key }
     requires head { named.3 ≡ named.0.key }
     ensures proved { IfOk result (IsProvedRun plan.now sizes.ring initial.items) }
+    ensures bounded { IfOk result (IsRunWithin (length initial.items + sum_by length plan.now) initial.items) }
     ensures fault { IfErr result (IsFaultOfRun AnswersInKind [] plan.now sizes) }
 {
     let (tickets, pass, tail, head) = named;
@@ -174,6 +178,7 @@ fn run_two_locks<R: Threads + Wait + Sync>(
     requires sizes { IsWithinLimits sizes.ring sizes.tries }
     requires names { AreInitialNames initial.items }
     ensures proved { IfOk result (IsProvedRun plan.now sizes.ring initial.items) }
+    ensures bounded { IfOk result (IsRunWithin (length initial.items + sum_by length plan.now) initial.items) }
     ensures fault { IfErr result (IsFaultOfRun AnswersInKind [] plan.now sizes) }
 {
     let operations = plan.operations();
@@ -234,6 +239,7 @@ fn run_ring<R: Threads + Sync>(
     requires names { AreInitialNames initial.items }
     requires roles { HasOneOfEach plan.now }
     ensures proved { IfOk result (IsProvedRun plan.now sizes.ring initial.items) }
+    ensures bounded { IfOk result (IsRunWithin (max RING_PLACES (length initial.items)) initial.items) }
     ensures fault { IfErr result (IsFaultOfRun AnswersInKind [] plan.now sizes) }
 {
     let (tickets, pass, tail, head) = Tickets::with_ring(
@@ -275,6 +281,7 @@ fn run_held<R: Threads + Wait + Sync>(
     requires names { AreInitialNames initial.items }
     requires roles { CanRun queue plan.now }
     ensures proved { IfOk result (IsProvedRun plan.now sizes.ring initial.items) }
+    ensures bounded { IfSome (room_of queue initial.items plan.now) (λ room. IfOk result (IsRunWithin room initial.items)) }
     ensures fault { IfErr result (IsFaultOfRun AnswersInKind [] plan.now sizes) }
 {
     match queue {
@@ -309,6 +316,8 @@ pub fn run_proved<R: Threads + Wait + Sync>(
         → IsCompleteFrom initial.now merged) }
     ensures linearizable { IfOk result (λ r. (merged : List Event) → IsMerged r.lists merged
         → IsLinearizable initial.now (operations_of merged)) }
+    ensures bounded { IfSome (room_of queue initial.now plan.now) (λ room. IfOk result (λ r. (merged : List Event)
+        → IsMerged r.lists merged → IsLinearizableWithin room initial.now (operations_of merged))) }
     ensures sizes { ¬ IsWithinLimits ring tries → result ≡ Err Limit }
     ensures names { ¬ AreInitialNames initial.now → (result ≡ Err Limit) ⊎ (result ≡ Err Memory) }
     ensures preloads { (place : ℕ) → result ≢ Err (Preload place) }

@@ -8,6 +8,7 @@ use Rattle.history_merge.specs.Merge.{IsMerged}
 use Rattle.history_merge.specs.Operations.{operations_of}
 use Rattle.queue_interface.specs.Answers.{AnswersInKind}
 use Rattle.recorder_core.specs.Replay.{AreRecorded, Replays}
+use Rattle.stress_run.specs.Bounded.{IsLinearizableWithin}
 use Rattle.stress_run.specs.Operations.{IsRun}
 use Rattle.stress_run.specs.Recorded.{RecordedView}
 
@@ -20,3 +21,8 @@ pub record IsProvedRun (plan : List (List Kind)) (ring : ℕ) (initial : List �
   pub replays : Replays ring initial r.lists
   pub fits : (merged : List Event) → IsMerged r.lists merged → IsCompleteFrom initial merged
   pub linearizable : (merged : List Event) → IsMerged r.lists merged → IsLinearizable initial (operations_of merged)
+
+-- each merged history of the run is one of a queue that has room for this many values
+abbrev pub IsRunWithin : ℕ → List ℕ → RecordedView → Type 0
+IsRunWithin room initial r = (merged : List Event) → IsMerged r.lists merged
+    → IsLinearizableWithin room initial (operations_of merged)

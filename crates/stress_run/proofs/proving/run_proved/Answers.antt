@@ -1,4 +1,5 @@
 use Rattle.std.proofs.Common.{inr, List, ℕ, subst, ap, ◌∙◌}
+use Rattle.std.specs.Prelude.{IfOk, IfSome}
 use Rattle.std.proofs.lemmas.Result.{IfOk-weaker, IfErr-weaker}
 use Rattle.event_records.specs.declared.event.Event.{Event}
 use Rattle.history_merge.specs.Initial.{IsCompleteFrom}
@@ -6,7 +7,9 @@ use Rattle.history_merge.specs.Legal.{IsLinearizable}
 use Rattle.history_merge.specs.Merge.{IsMerged}
 use Rattle.history_merge.specs.Operations.{operations_of}
 use Rattle.recorder_core.specs.Replay.{Replays}
+use Rattle.stress_run.specs.Bounded.{room_of}
 use Rattle.stress_run.specs.Crew.{SizesView}
+use Rattle.stress_run.specs.Inner.Proved.{IsRunWithin}
 use Rattle.stress_run.proofs.Preloads.{fault_from, names_no_value}
 use Rattle.stress_run.proofs.proving.run_proved.Goals as goal
 
@@ -14,6 +17,11 @@ pub returns-clause-linearizable : goal.returns-clause-linearizable
 returns-clause-linearizable g c = IfOk-weaker c.run_held.result _ _ (λ r is.
     subst (λ (values : List ℕ). (merged : List Event) → IsMerged r.lists merged → IsLinearizable values (operations_of merged))
     c.in_ok-sizes.ensures.held.0 is.linearizable) c.run_held.ensures.proved
+
+pub returns-clause-bounded : goal.returns-clause-bounded
+returns-clause-bounded g c =
+    subst (λ (values : List ℕ). IfSome (room_of c.args.queue values c.args.plan.now) (λ room. IfOk c.run_held.result (IsRunWithin room values)))
+    c.in_ok-sizes.ensures.held.0 c.run_held.ensures.bounded
 
 pub returns-clause-fits : goal.returns-clause-fits
 returns-clause-fits g c = IfOk-weaker c.run_held.result _ _ (λ r is.
