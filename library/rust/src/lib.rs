@@ -311,7 +311,7 @@ pub fn verify_under(text: &str, condition: Condition) -> Result<Verdict, Error> 
 }
 
 /// Returns the picture of a history, and of a verdict if one follows, as an SVG document. The answer is `INVALID`, and
-/// not a yes, if the verdict is no evidence.
+/// `is_yes` is false, if the verdict is no evidence.
 pub fn draw(text: &str) -> Result<Verdict, Error> {
     judge(fifobench_draw, text)
 }
