@@ -22,8 +22,7 @@ use Rattle.command_words.specs.Options.{Settings}
 use Rattle.command_words.specs.declared.options.Condition.{Condition}
 use Rattle.commands.specs.declared.stress.TheConstants.{TRIES}
 use Rattle.queue_interface.specs.Answers.{AnswersInKind, TakesOrRefuses}
-use Rattle.commands.specs.Answers.{Reply, ShowsNoViolation, shown, refused_queue, refused_limit, memory_fault}
-use Rattle.commands.specs.Answers.{run_fault}
+use Rattle.commands.specs.Answers.{Reply, ShowsNoViolation, shown, refused_queue, refused_limit, memory_fault, run_fault}
 use Rattle.commands.specs.Judging.{IsOfVerdictUnder, Whether}
 
 -- x is the first element of the list that this name fits
@@ -51,8 +50,7 @@ pub record IsShownRun (condition : Condition) (count : ℕ) (lists : List (List 
   pub events : List Event
   pub merged : IsMerged lists events
   pub complete : IsCompleteFrom (first_values count) events
-  pub answered : IsOfVerdictUnder condition (run_history count events)
-      (shown (said_in (run_version count) (run_history count events))) answer
+  pub answered : IsOfVerdictUnder condition (run_history count events) (shown (said_in (run_version count) (run_history count events))) answer
 
 -- a run of the seed's plan on a queue that may answer so and took the first values: its lists by ticket, with their verdict
 pub record IsRecordedRun (may : Question → Answer → Type 0) (may_preload : ℕ → ℕ → Bool → Type 0) (settings : Settings) (answer : Reply) : Type 0 where
@@ -72,8 +70,7 @@ pub record IsFailedRun (may : Question → Answer → Type 0) (may_preload : ℕ
   pub plan : List (List Kind)
   pub seeded : IsSeeded settings.seed settings.threads settings.operations settings.percent plan
   pub fault : RunFault
-  pub of_run : IsFaultOfRun may (first_values settings.initial) plan
-      (record { ring = settings.ring; tries = TRIES }) fault
+  pub of_run : IsFaultOfRun may (first_values settings.initial) plan (record { ring = settings.ring; tries = TRIES }) fault
   pub within : fault ≢ Limit
   pub refused : (place : ℕ) → fault ≡ Preload place → IsFirstRefused may_preload (first_values settings.initial) place
   pub is : answer ≡ run_fault fault
@@ -81,8 +78,7 @@ pub record IsFailedRun (may : Question → Answer → Type 0) (may_preload : ℕ
 -- a run and its verdict, or a fault that a run may have, or out of memory
 abbrev pub RunsOrFails : (Question → Answer → Type 0) → (ℕ → ℕ → Bool → Type 0) → Settings → Reply → Type 0
 RunsOrFails may may_preload settings answer =
-    IsRecordedRun may may_preload settings answer
-    ⊎ (IsFailedRun may may_preload settings answer ⊎ (answer ≡ memory_fault))
+    IsRecordedRun may may_preload settings answer ⊎ (IsFailedRun may may_preload settings answer ⊎ (answer ≡ memory_fault))
 
 -- what is answered of a queue that may answer so: too many operations are refused, and no others
 abbrev pub StressesQueue : (Question → Answer → Type 0) → (ℕ → ℕ → Bool → Type 0) → Settings → Reply → Type 0
@@ -94,17 +90,13 @@ StressesQueue may may_preload settings answer =
 abbrev pub IsProvedName : List ℕ → Type 0
 IsProvedName name = (name ≡ codes "proved") ⊎ ((name ≡ codes "proved-two-lock") ⊎ (name ≡ codes "proved-lock-free"))
 
--- of a name that no queue of the shelf has: the run of a proved queue shows no violation, and any other name is
--- refused
+-- of a name that no queue of the shelf has: the run of a proved queue shows no violation, and any other name is refused
 abbrev pub StressesUnshelved : Settings → Reply → Type 0
 StressesUnshelved settings answer = Whether (IsProvedName settings.queue)
-    (StressesQueue AnswersInKind (λ _. TakesOrRefuses) settings answer × ShowsNoViolation answer)
-    (answer ≡ refused_queue)
+    (StressesQueue AnswersInKind (λ _. TakesOrRefuses) settings answer × ShowsNoViolation answer) (answer ≡ refused_queue)
 
 -- `stress` on a shelf of queues with names: the first of the name is run
-abbrev pub Stresses : {X : Type 0} → (X → List ℕ) → (X → Question → Answer → Type 0) → (X → ℕ → ℕ → Bool → Type 0)
-    → List X → Settings → Reply → Type 0
+abbrev pub Stresses : {X : Type 0} → (X → List ℕ) → (X → Question → Answer → Type 0) → (X → ℕ → ℕ → Bool → Type 0) → List X → Settings → Reply → Type 0
 Stresses {X} name_of may_of may_preload_of shelf settings answer =
     (All (λ x. name_of x ≢ settings.queue) shelf × StressesUnshelved settings answer)
-    ⊎ ((x : X) × IsFirstNamed name_of settings.queue shelf x
-    × StressesQueue (may_of x) (may_preload_of x) settings answer)
+    ⊎ ((x : X) × IsFirstNamed name_of settings.queue shelf x × StressesQueue (may_of x) (may_preload_of x) settings answer)
