@@ -9,8 +9,8 @@
 //
 //     fifobench::expect_linearizable(history);    // fails the test, and shows what went wrong and its picture
 //
-// Where there is no memory for the answer's text a function throws std::bad_alloc, and if there is none for judging the
-// status is Status::fault. All of them may be called from several threads at once.
+// A function throws std::bad_alloc if there is no memory for the text of the answer. If there is none for judging, the
+// status is Status::fault. All functions may be called from several threads at once.
 #ifndef FIFOBENCH_HPP
 #define FIFOBENCH_HPP
 
@@ -30,21 +30,21 @@ namespace fifobench {
 
 enum class Status : std::uint8_t { yes = 0, no = 1, refused = 2, fault = 3 };
 
-// What was answered: the text as the program writes it, and its status.
+// An answer: the text that the program writes, and its status.
 struct Answer {
     Status status;
     std::string text;
 
-    // YES, or VALID.
+    // Whether it is YES or VALID.
     bool is_yes() const { return status == Status::yes; }
 
-    // Its first line, as "NO VOrd".
+    // Its first line, such as "NO VOrd".
     std::string_view first_line() const { return std::string_view(text).substr(0, text.find('\n')); }
 };
 
 namespace detail {
 
-// Calls with the room that most answers need, and again with what was told where that isn't enough.
+// Calls the function with the room that most answers need, and again with the needed room if that isn't enough.
 template <class Call>
 Answer answer(std::size_t room, Call call) {
     Answer answer{Status::fault, std::string(room, '\0')};
@@ -80,16 +80,18 @@ inline Answer judge_under(ConditionJudge* function, std::string_view text, std::
 
 }    // namespace detail
 
-// The verdict on the text of a history.
+// Returns the verdict on the text of a history.
 inline Answer check(std::string_view text) { return detail::judge(fifobench_check, text); }
 
-// A smaller history that shows the violation, and its verdict; the verdict only if the history is linearizable.
+// Returns a smaller history that shows the violation, and its verdict; only the verdict if the history is
+// linearizable.
 inline Answer shrink(std::string_view text) { return detail::judge(fifobench_shrink, text); }
 
-// Whether the verdict after the history is evidence: VALID or INVALID.
+// Returns whether the verdict after the history is evidence: VALID or INVALID.
 inline Answer verify(std::string_view text) { return detail::judge(fifobench_verify, text); }
 
-// A condition weaker than linearizability, or that itself: a sum of fifobench_condition, as fifobench::local + fifobench::weak_empty.
+// Linearizability or a weaker condition: a sum of values of fifobench_condition, such as fifobench::local +
+// fifobench::weak_empty.
 constexpr std::uint32_t linearizable = FIFOBENCH_LINEARIZABLE;
 constexpr std::uint32_t local = FIFOBENCH_LOCAL;
 constexpr std::uint32_t weak_empty = FIFOBENCH_WEAK_EMPTY;
@@ -99,17 +101,18 @@ inline Answer check(std::string_view text, std::uint32_t condition) { return det
 inline Answer shrink(std::string_view text, std::uint32_t condition) { return detail::judge_under(fifobench_shrink_under, text, condition); }
 inline Answer verify(std::string_view text, std::uint32_t condition) { return detail::judge_under(fifobench_verify_under, text, condition); }
 
-// The picture of a history, and of a verdict if one follows, as an SVG document or in lines of characters.
+// Return the picture of a history, and of a verdict if one follows, as an SVG document or in lines of characters.
 inline Answer draw(std::string_view text) { return detail::judge(fifobench_draw, text); }
 inline Answer draw_text(std::string_view text) { return detail::judge(fifobench_draw_text, text); }
 
-// The completion of a history whose calls may be pending: it is linearizable if and only if some completion is.
+// Returns the completion of a history whose calls may be pending. It is linearizable if and only if some completion
+// is.
 inline Answer complete(std::string_view text) { return detail::judge(fifobench_complete, text); }
 
-// How far the operations of a history overlap, and other counts: a line for each number.
+// Returns the statistics of a history: a line for each number.
 inline Answer stats(std::string_view text) { return detail::judge(fifobench_stats, text); }
 
-// The verdict on events by ticket.
+// Returns the verdict on events by ticket.
 inline Answer check(const fifobench_event* events, std::size_t count) {
     return detail::answer(24 * count + 64, [&](std::uint8_t* buffer, std::size_t capacity, std::size_t* needed) {
         return fifobench_check_events(events, count, buffer, capacity, needed);
@@ -118,14 +121,14 @@ inline Answer check(const fifobench_event* events, std::size_t count) {
 
 inline Answer check(const std::vector<fifobench_event>& events) { return check(events.data(), events.size()); }
 
-// What a recorder recorded (examples/recorders/cpp/recorder.hpp): its events by ticket, each with its thread, the values that the
-// queue held first, and a text of both.
+// The history of a recorder (examples/recorders/cpp/recorder.hpp): its events by ticket, each with its thread, the
+// values that the queue held first, and a text of both.
 template <class History>
 using if_recorded = decltype(std::declval<const History&>().events().begin()->second.ticket,
                              std::declval<const History&>().initial().empty(),
                              std::declval<const History&>().write(std::declval<std::ostream&>()));
 
-// Its text.
+// Returns the text of such a history.
 template <class History, class = if_recorded<History>>
 std::string text_of(const History& history) {
     std::ostringstream text;
@@ -133,7 +136,7 @@ std::string text_of(const History& history) {
     return text.str();
 }
 
-// Its verdict. Where the queue was empty first, no text is made.
+// Returns the verdict on such a history. If the queue was empty first, no text is made.
 template <class History, class = if_recorded<History>>
 Answer check(const History& history) {
     if (!history.initial().empty()) {
@@ -148,8 +151,8 @@ Answer check(const History& history) {
     return check(events);
 }
 
-// What a test prints about a history with this verdict: for a `NO` the kind of violation, its operations and their picture; for a
-// refused history why; nothing for a `YES`.
+// Returns the report that a test prints about a history with this verdict: for a `NO` the kind of violation, its
+// operations and their picture; for a refused history the reason; nothing for a `YES`.
 inline std::string report(const Answer& verdict, std::string_view text) {
     if (verdict.is_yes()) {
         return {};
@@ -173,8 +176,8 @@ std::string report(const History& history) {
 
 namespace detail {
 
-// Fails the test that runs: that of GoogleTest or Catch2, where one of their headers was included before this one, which then goes
-// on; else the process ends as by a failed assert.
+// Fails the test that runs. A test of GoogleTest or Catch2 goes on, if one of their headers was included before this
+// one. Otherwise the process ends as by a failed assert.
 static inline void fail(const std::string& said, const char* file, int line) {
 #if defined(ADD_FAILURE_AT)
     ADD_FAILURE_AT(file, line) << said;
@@ -188,7 +191,7 @@ static inline void fail(const std::string& said, const char* file, int line) {
 
 }    // namespace detail
 
-// Fails the test where the history, a text or a recorder's, isn't linearizable, with the report as the message.
+// Fails the test if the history, a text or that of a recorder, isn't linearizable, with the report as the message.
 template <class History>
 static inline void expect_linearizable(const History& history, const char* file = __builtin_FILE(),
                                        int line = __builtin_LINE()) {

@@ -411,7 +411,7 @@ Status:
   0  yes
   1  no
   2  refused: no such queue, or threads times operations is above 1000000
-     (REFUSED ..), or the arguments
+     (REFUSED ..), or the words of the command
   3  failed: the run, a write, or memory (FAULT ..)
 
 Example:

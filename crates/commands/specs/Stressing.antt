@@ -125,7 +125,7 @@ SuitsRoles queue settings = queue ≡ Ring → AsksForOneOfEach settings
 abbrev pub StressesProved : ProvedQueue → Settings → Reply → Type 0
 StressesProved queue settings answer = Whether (SuitsRoles queue settings)
     (StressesQueue AnswersInKind (λ _. TakesOrRefuses) settings answer
-        × ShowsNoViolation answer) (answer ≡ refused_roles)
+    × ShowsNoViolation answer) (answer ≡ refused_roles)
 
 -- of a name that no queue of the shelf has: the proved queue of the name is run, and a name that no proved queue has
 -- is refused

@@ -22,13 +22,14 @@ accept_within room queue DequeueEmpty = accept queue DequeueEmpty
 -- the same after operations, if each is accepted in turn
 abbrev pub accept_all_within : ℕ → List ℕ → List OpKind → Option (List ℕ)
 accept_all_within room queue [] = Some queue
-accept_all_within room queue (kind ∷ kinds) = option_and_then (λ next. accept_all_within room next kinds) (accept_within room queue kind)
+accept_all_within room queue (kind ∷ kinds) = option_and_then (λ next. accept_all_within room next kinds)
+    (accept_within room queue kind)
 
 -- some linearization is one of a queue that has room for this many values and holds these first
 abbrev pub IsLinearizableWithin : ℕ → List ℕ → List Operation → Type 0
 IsLinearizableWithin room initial operations =
     (order : List Operation) × IsLegalOrder initial operations order
-        × IsSome (accept_all_within room initial (map (λ o. o.kind) order))
+    × IsSome (accept_all_within room initial (map (λ o. o.kind) order))
 
 -- the number of values that a queue has room for in a run of this plan from these values, if its runs are those of a
 -- bounded queue

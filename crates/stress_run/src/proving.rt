@@ -281,7 +281,8 @@ fn run_held<R: Threads + Wait + Sync>(
     requires names { AreInitialNames initial.items }
     requires roles { CanRun queue plan.now }
     ensures proved { IfOk result (IsProvedRun plan.now sizes.ring initial.items) }
-    ensures bounded { IfSome (room_of queue initial.items plan.now) (λ room. IfOk result (IsRunWithin room initial.items)) }
+    ensures bounded { IfSome (room_of queue initial.items plan.now)
+        (λ room. IfOk result (IsRunWithin room initial.items)) }
     ensures fault { IfErr result (IsFaultOfRun AnswersInKind [] plan.now sizes) }
 {
     match queue {

@@ -1,6 +1,7 @@
 //! The functions of `fifobench.h` for Rust: texts in, answers out.
 //!
-//! `library/build DIR` puts `libfifobench.a` into a folder. Cargo finds it there by the variable `FIFOBENCH_DIR`; without Cargo:
+//! `library/build DIR` puts `libfifobench.a` into a folder. Cargo finds it there by the variable `FIFOBENCH_DIR`.
+//! Without Cargo:
 //!
 //!     rustc --edition 2021 --crate-type rlib --crate-name fifobench -L DIR src/lib.rs
 //!
@@ -12,7 +13,8 @@
 //! }
 //! ```
 //!
-//! In a test [`expect_linearizable`] takes a text, events, or a recorder's history, and fails with what shows a `NO`:
+//! In a test [`expect_linearizable`] takes a text, events, or the history of a recorder, and fails with a report on a
+//! `NO`:
 //!
 //! ```ignore
 //! #[path = "recorder.rs"]
@@ -25,12 +27,12 @@
 //! }
 //! ```
 //!
-//! All of them may be called from several threads at once.
+//! All functions may be called from several threads at once.
 
 use std::error;
 use std::fmt;
 
-/// An event as `fifobench.h` has it.
+/// An event, laid out as in `fifobench.h`.
 #[repr(C)]
 #[derive(Clone, Copy, Debug, PartialEq, Eq)]
 struct RawEvent {
@@ -59,20 +61,20 @@ extern "C" {
     fn fifobench_check_events(events: *const RawEvent, count: usize, answer: *mut u8, capacity: usize, needed: *mut usize) -> u8;
 }
 
-/// What a thread called, or was answered.
+/// The kind of an event: a call, or a return.
 #[derive(Clone, Copy, Debug, PartialEq, Eq)]
 pub enum What {
     /// An enqueue of the value is called.
     CallEnq(u64),
-    /// It returned: the value was taken.
+    /// It returns: the value is enqueued.
     RetEnq,
-    /// It returned: the value was not taken.
+    /// It returns: the enqueue failed.
     RetNot,
     /// A dequeue is called.
     CallDeq,
-    /// It returned the value.
+    /// It returns the value.
     RetDeq(u64),
-    /// It returned: the queue is empty.
+    /// It returns: it found the queue empty.
     RetEmpty,
 }
 
@@ -98,7 +100,8 @@ impl From<&Event> for RawEvent {
     }
 }
 
-/// From the row of a recorder: the ticket, the thread, the event's word by its place in the order above from 0, and its value.
+/// Makes an event from the row of a recorder: the ticket, the thread, the place of the event's kind in the order
+/// above, from 0, and its value.
 impl From<(u64, usize, u64, u64)> for Event {
     fn from((ticket, thread, what, value): (u64, usize, u64, u64)) -> Event {
         let what = match what {
@@ -114,7 +117,7 @@ impl From<(u64, usize, u64, u64)> for Event {
 }
 
 impl fmt::Display for Event {
-    /// Its line in a text.
+    /// Returns its line in a text.
     fn fmt(&self, to: &mut fmt::Formatter) -> fmt::Result {
         write!(to, "{} {} ", self.ticket, self.thread)?;
         match self.what {
@@ -128,12 +131,12 @@ impl fmt::Display for Event {
     }
 }
 
-/// What can be judged in a test: a text, events by ticket, or what a recorder recorded ([`recorder!`]).
+/// A history that a test can judge: a text, events by ticket, or the history of a recorder ([`recorder!`]).
 pub trait Judged {
-    /// Its events, where they are at hand and the queue was empty first.
+    /// Returns its events, if they are at hand and the queue was empty first.
     fn events(&self) -> Option<Vec<Event>>;
 
-    /// Its text.
+    /// Returns its text.
     fn text(&self) -> String;
 }
 
@@ -178,8 +181,8 @@ impl Judged for Vec<Event> {
     }
 }
 
-/// Lets the history of a recorder (`recorder.rs`, a module of the test) be judged: by its events, without a text, where the queue
-/// was empty first.
+/// Lets the history of a recorder (`recorder.rs`, a module of the test) be judged: by its events, without a text, if
+/// the queue was empty first.
 #[macro_export]
 macro_rules! recorder {
     ($history:ty) => {
@@ -197,8 +200,8 @@ macro_rules! recorder {
     };
 }
 
-/// What a test says of a history that isn't linearizable: the kind of violation, the operations that show it, and their picture; of
-/// one that is refused, why. `None` of a linearizable one.
+/// Returns the report of a test on a history that isn't linearizable: the kind of violation, the operations that show
+/// it, and their picture. For a refused history it is the reason, and for a linearizable one `None`.
 pub fn report<H: Judged + ?Sized>(history: &H) -> Option<String> {
     let verdict = match history.events() {
         Some(events) => check_events(&events),
@@ -211,7 +214,7 @@ pub fn report<H: Judged + ?Sized>(history: &H) -> Option<String> {
     }
 }
 
-/// What shows the `NO` on a history.
+/// Returns the report on a `NO`.
 fn shown(text: &str) -> Result<String, Error> {
     let shrunk = shrink(text)?.text;
     let picture = draw_text(&shrunk)?.text;
@@ -219,11 +222,11 @@ fn shown(text: &str) -> Result<String, Error> {
     Ok(format!("the history isn't linearizable: {kind}\n\n{shrunk}\n{picture}"))
 }
 
-/// Passes where the history is linearizable.
+/// Passes if the history is linearizable.
 ///
 /// # Panics
 ///
-/// Where it isn't, with its [`report`].
+/// If it isn't, with its [`report`].
 #[track_caller]
 pub fn expect_linearizable<H: Judged + ?Sized>(history: &H) {
     if let Some(said) = report(history) {
@@ -240,12 +243,12 @@ pub struct Verdict {
     pub text: String,
 }
 
-/// Why there is no verdict.
+/// The reason why there is no verdict.
 #[derive(Clone, Debug, PartialEq, Eq)]
 pub enum Error {
-    /// The input is not a whole, correct history. The word says why, as `TicketOrder 2`.
+    /// The input is not a whole, correct history, for this reason, such as `TicketOrder 2`.
     Refused(String),
-    /// Memory ran out.
+    /// Out of memory.
     Memory,
 }
 
@@ -260,17 +263,18 @@ impl fmt::Display for Error {
 
 impl error::Error for Error {}
 
-/// The verdict on the text of a history.
+/// Returns the verdict on the text of a history.
 pub fn check(text: &str) -> Result<Verdict, Error> {
     judge(fifobench_check, text)
 }
 
-/// A smaller history that shows the violation, and its verdict; the verdict only if the history is linearizable.
+/// Returns a smaller history that shows the violation, and its verdict; only the verdict if the history is
+/// linearizable.
 pub fn shrink(text: &str) -> Result<Verdict, Error> {
     judge(fifobench_shrink, text)
 }
 
-/// Whether the verdict after the history is evidence.
+/// Returns whether the verdict after the history is evidence.
 pub fn verify(text: &str) -> Result<Verdict, Error> {
     judge(fifobench_verify, text)
 }
@@ -278,7 +282,7 @@ pub fn verify(text: &str) -> Result<Verdict, Error> {
 /// The condition that is judged: linearizability, or a weaker one.
 #[derive(Clone, Copy, Debug, Default, PartialEq, Eq)]
 pub struct Condition {
-    /// The values of each producer are judged alone (local linearizability).
+    /// The values of each producer are judged on their own (local linearizability).
     pub local: bool,
     /// An empty dequeue promises nothing.
     pub weak_empty: bool,
@@ -290,52 +294,55 @@ impl From<Condition> for u32 {
     }
 }
 
-/// The verdict on the text of a history under a condition.
+/// Returns the verdict on the text of a history under a condition.
 pub fn check_under(text: &str, condition: Condition) -> Result<Verdict, Error> {
     judge_under(fifobench_check_under, text, condition)
 }
 
-/// A smaller history that doesn't meet the condition either, and its verdict; the verdict only if the history meets it.
+/// Returns a smaller history that doesn't meet the condition either, and its verdict; only the verdict if the history
+/// meets it.
 pub fn shrink_under(text: &str, condition: Condition) -> Result<Verdict, Error> {
     judge_under(fifobench_shrink_under, text, condition)
 }
 
-/// Whether the verdict after the history is evidence under the condition.
+/// Returns whether the verdict after the history is evidence under the condition.
 pub fn verify_under(text: &str, condition: Condition) -> Result<Verdict, Error> {
     judge_under(fifobench_verify_under, text, condition)
 }
 
-/// The picture of a history, and of a verdict if one follows, as an SVG document; `INVALID`, and no yes, where the verdict is no
-/// evidence.
+/// Returns the picture of a history, and of a verdict if one follows, as an SVG document. The answer is `INVALID`, and
+/// `is_yes` is false, if the verdict is no evidence.
 pub fn draw(text: &str) -> Result<Verdict, Error> {
     judge(fifobench_draw, text)
 }
 
-/// The same in lines of characters.
+/// Returns the same picture in lines of characters.
 pub fn draw_text(text: &str) -> Result<Verdict, Error> {
     judge(fifobench_draw_text, text)
 }
 
-/// The completion of a history whose calls may be pending: it is linearizable if and only if some completion is.
+/// Returns the completion of a history whose calls may be pending. It is linearizable if and only if some completion
+/// is.
 pub fn complete(text: &str) -> Result<Verdict, Error> {
     judge(fifobench_complete, text)
 }
 
-/// How far the operations of a history overlap, and other counts: a line for each number.
+/// Returns the statistics of a history: a line for each number.
 pub fn stats(text: &str) -> Result<Verdict, Error> {
     judge(fifobench_stats, text)
 }
 
-/// The verdict on events by ticket.
+/// Returns the verdict on events by ticket.
 pub fn check_events(events: &[Event]) -> Result<Verdict, Error> {
     let raw: Vec<RawEvent> = events.iter().map(RawEvent::from).collect();
     answer(24 * raw.len() + 64, |buffer, needed| {
-        // SAFETY: the structs, the buffer and the word are as long as they are said to, and apart; the structs have C's layout.
+        // SAFETY: the structs, the buffer and the word are as long as they are said to, and apart; the structs have
+        // C's layout.
         unsafe { fifobench_check_events(raw.as_ptr(), raw.len(), buffer.as_mut_ptr(), buffer.len(), needed) }
     })
 }
 
-/// The number of the library's interface.
+/// Returns the interface number of the library.
 pub fn interface() -> u32 {
     // SAFETY: it reads and writes nothing.
     unsafe { fifobench_interface() }
@@ -355,7 +362,7 @@ fn judge_under(function: ConditionJudge, text: &str, condition: Condition) -> Re
     })
 }
 
-/// Calls with the room that most answers need, and again with what was told where that isn't enough.
+/// Calls the function with the room that most answers need, and again with the needed room if that isn't enough.
 fn answer(room: usize, call: impl Fn(&mut [u8], &mut usize) -> u8) -> Result<Verdict, Error> {
     let mut buffer = vec![0; room];
     loop {

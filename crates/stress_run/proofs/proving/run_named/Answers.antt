@@ -10,4 +10,5 @@ returns-clause-proved g c =
     let end = c.close_with_log-total.ensures in
     let total = c.close_with_log-total.result in
     proved_run _ _ _ _ _ c.requires.names (run.lists total end.drawn) (run.told refl) end.noted end.rise
-    (subst (λ (values : List ℕ). IsAccepted values (kinds_noted c.into_log-log.result.notes)) (sym c.requires.run.1) c.into_log-log.ensures.accepted) _ _ _ c.requires.sizes (run.recorded total end.drawn)
+    (subst (λ (values : List ℕ). IsAccepted values (kinds_noted c.into_log-log.result.notes)) (sym c.requires.run.1) c.into_log-log.ensures.accepted) _ _ _ c.requires.sizes
+    (run.recorded total end.drawn)
