@@ -57,8 +57,8 @@ pub record IsShownRun (condition : Condition) (count : ℕ) (lists : List (List 
   pub answered : IsOfVerdictUnder condition (run_history count events)
       (shown (said_in (run_version count) (run_history count events))) answer
 
--- the plan that the settings ask for: without producers the seed's, else one of so many producers, all workers if they
--- are no more
+-- the plan that the settings ask for: the seed's if they ask for no producers, else one with that number of producers,
+-- or with producers alone if there are fewer workers
 abbrev pub IsPlanned : Settings → List (List Kind) → Type 0
 IsPlanned settings plan = Whether (settings.producers ≡ 0)
     (IsSeeded settings.seed settings.threads settings.operations settings.percent plan)
