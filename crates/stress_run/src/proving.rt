@@ -296,8 +296,11 @@ fn run_held<R: Threads + Wait + Sync>(
 /// Runs a plan on a proved queue, which is made for this run alone and holds the initial values at first. The recorded
 /// history is linearizable from these values, whatever the schedule of the threads.
 ///
-/// The step that decides an answer also notes it. The notes exist only in proofs; with a lock, each costs four to
-/// seven loads of the ticket word. Faults, waiting and memory are those of [`run_from`](crate::run_from), with the
+/// A ring has room for a fixed number of values, and with two locks for all values of the run. In the linearization an
+/// enqueue on these fails if so many values are in the queue, and only then.
+///
+/// The step that decides an answer also notes it. The notes exist only in proofs; with a lock or in a ring, each costs
+/// four loads of the ticket word. Faults, waiting and memory are those of [`run_from`](crate::run_from), with the
 /// memory of the list, the nodes or the ring in place of the queue's. `Preload` never comes. `Roles` comes, before any
 /// thread is started, if the queue is a ring and the plan gives enqueues to more than one worker, or dequeues.
 pub fn run_proved<R: Threads + Wait + Sync>(
