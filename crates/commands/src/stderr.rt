@@ -153,10 +153,15 @@ fn message_of<'b, 'a, S>(
         _ => return sentence(alloc, &Complaint::Write),
     };
     let on_shelf = ended.shelf.iter().map(|shelved| shelved.name);
-    let names: Vec<&str> = ["proved", "proved-two-lock", "proved-lock-free", "proved-ring"]
-        .into_iter()
-        .chain(on_shelf)
-        .collect(alloc)?;
+    let names: Vec<&str> = [
+        "proved",
+        "proved-two-lock",
+        "proved-lock-free",
+        "proved-ring",
+    ]
+    .into_iter()
+    .chain(on_shelf)
+    .collect(alloc)?;
     let task = &ended.order.task;
     let given = Given {
         reads: reads_of(name_of(task)).unwrap_or(Reads::History),
