@@ -403,15 +403,17 @@ before any worker starts, K of them, and the text of the history is of version
 2. Where the queue has no room for one of them, `FAULT Preload PLACE` says for
 which, counted from 0.
 
-Queues: proved, proved-two-lock and proved-lock-free keep the order, as is
-proved; locked, two-lock, array and seg are made to keep it; lifo, doubling,
-inventing, shy and losing break it now and then, on purpose.
+Queues: proved, proved-two-lock, proved-lock-free and proved-ring keep the
+order, as is proved; locked, two-lock, array and seg are made to keep it; lifo,
+doubling, inventing, shy and losing break it now and then, on purpose.
+proved-ring has one producer and one consumer, so it needs `--threads 2
+--producers 1`, or `--threads 1`.
 
 Status:
   0  yes
   1  no
-  2  refused: no such queue, or threads times operations is above 1000000
-     (REFUSED ..), or the words of the command
+  2  refused: no such queue, more workers than it can have, or threads times
+     operations above 1000000 (REFUSED ..), or the words of the command
   3  failed: the run, a write, or memory (FAULT ..)
 
 Example:
