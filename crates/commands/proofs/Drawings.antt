@@ -13,7 +13,15 @@ use Rattle.command_words.specs.declared.options.DrawOptions.{DrawOptions}
 use Rattle.commands.specs.Completing.{completion_in, IsCompletable}
 use Rattle.command_words.specs.declared.options.PictureForm.{PictureForm}
 use Rattle.commands.specs.Drawing.{Draws, DrawsAlone, DrawsClaim, DrawsDecided, DrawsHistory, DrawsPart, DrawsSound}
-use Rattle.commands.specs.Drawing.{IsDrawnWithout, strict}
+use Rattle.commands.specs.Drawing.{DrawsTold, DrawsYes, IsDrawnWithout, strict}
+use Rattle.commands.specs.Answers.{refused_orders, refused_size}
+use Rattle.commands.specs.Told.{IsTold}
+use Rattle.commands.proofs.Told.{few_before, one_told}
+use Rattle.claims.specs.declared.claimed.Claimed.TheVariants.{Yes}
+use Rattle.drawing.specs.declared.columns.TheConstants.{MOST_DRAWN}
+use Rattle.history_merge.specs.declared.operation.Operation.{Operation}
+use Rattle.history_text.specs.declared.version.Version.TheVariants.{Two}
+use mathlib.Core.Logic.{◌⊎◌}
 use Rattle.commands.specs.Inputs.{history_in}
 use Rattle.commands.specs.Judging.{IsVerdictClaim}
 use Rattle.completions.proofs.Sound.{may_be_pending}
@@ -23,7 +31,7 @@ use Rattle.history_text.proofs.OnePending.{has_same, same_text}
 use Rattle.history_text.specs.Pending.{as_pending, HasPendingText}
 use Rattle.history_text.specs.declared.pending_text.PendingText.{PendingText}
 use Rattle.history_text.specs.Versions.{said_in}
-use Rattle.std.proofs.Common.{ap, Bool, false, refl, true}
+use Rattle.std.proofs.Common.{ap, arith, Bool, false, refl, true}
 use Rattle.conditions.specs.Conditions.{without_empties}
 use Rattle.history_merge.specs.Initial.{Contents, HistoryView}
 use Rattle.verdicts.proofs.NamedPlaces.{part_is_one}
@@ -86,6 +94,38 @@ one_alone options text None a b has =
     one_of_history (said_by (history_in text)) a b (λ complete.
     one_part options.condition.is_weakly_empty (history_in text) (DrawsDecided options None) a b few complete
     (λ t few_in sound. one_decided options None t a b few_in sound))
+
+-- the lines of a `YES` have one picture
+one_yes : (options : DrawOptions) (lines : List Operation) (a b : Reply) → DrawsYes options lines a → DrawsYes options lines b → a ≡ b
+one_yes options lines a b x y = by_order x y
+  where
+    drawn : HistoryView → Reply → Type 0
+    drawn history answer = DrawsPart options.condition.is_weakly_empty (said_in Two history)
+        (λ text r. DrawsSound options None (claim_on text (Yes lines)) r) answer
+
+    by_told : length lines ≤ MOST_DRAWN → DrawsTold options lines a → DrawsTold options lines b → a ≡ b
+    by_told few (inl p) (inl q) =
+        let few_values = few_before lines in
+        let is = ap length q.1.initial in
+        one_part options.condition.is_weakly_empty (said_in Two q.0) (λ text r. DrawsSound options None (claim_on text (Yes lines)) r) a b
+        (omega arith) q.1.complete (λ t few_in sound. one_drawn options None (claim_on t (Yes lines)) a b)
+        (subst (λ h. drawn h a) (one_told lines p.0 q.0 p.1 q.1) p.2) q.2
+    by_told few (inl p) (inr q) = absurd (q.0 p.0 p.1)
+    by_told few (inr p) (inl q) = absurd (p.0 q.0 q.1)
+    by_told few (inr p) (inr q) = p.1 ∙ sym q.1
+
+    by_few : (length lines ≤ MOST_DRAWN × DrawsTold options lines a) ⊎ ((¬ (length lines ≤ MOST_DRAWN)) × (a ≡ refused_size))
+        → (length lines ≤ MOST_DRAWN × DrawsTold options lines b) ⊎ ((¬ (length lines ≤ MOST_DRAWN)) × (b ≡ refused_size)) → a ≡ b
+    by_few (inl p) (inl q) = by_told p.0 p.1 q.1
+    by_few (inl p) (inr q) = absurd (q.0 p.0)
+    by_few (inr p) (inl q) = absurd (p.0 q.0)
+    by_few (inr p) (inr q) = p.1 ∙ sym q.1
+
+    by_order : DrawsYes options lines a → DrawsYes options lines b → a ≡ b
+    by_order (inl p) (inl q) = by_few p.1 q.1
+    by_order (inl p) (inr q) = absurd (q.0 p.0)
+    by_order (inr p) (inl q) = absurd (p.0 q.0)
+    by_order (inr p) (inr q) = p.1 ∙ sym q.1
 
 -- an input has one picture
 one_picture : (options : DrawOptions) (input : Ahead) (read : Drawable) (a b : Reply) → IsDrawableOf input read → Draws options read a

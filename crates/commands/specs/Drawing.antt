@@ -11,8 +11,10 @@ use Rattle.drawing.specs.Scene.{SceneView, scene_of}
 use Rattle.drawing.specs.Terminal.{terminal_picture}
 use Rattle.drawing.specs.declared.columns.TheConstants.{MOST_DRAWN}
 use Rattle.history_merge.specs.Initial.{HistoryView}
+use Rattle.history_merge.specs.declared.operation.Operation.{Operation}
 use Rattle.history_text.specs.Versions.{HistoryText, said_in}
 use Rattle.history_text.specs.declared.pending_text.PendingText.{PendingText}
+use Rattle.history_text.specs.declared.version.Version.TheVariants.{Two}
 use Rattle.svg_picture.specs.Html.{html_picture}
 use Rattle.svg_picture.specs.Picture.{svg_picture}
 use Rattle.conditions.specs.Conditions.{without_empties}
@@ -22,6 +24,7 @@ use Rattle.claims.specs.declared.claimed.Claimed.TheVariants.{No, Yes}
 use Rattle.commands.specs.Answers.{Reply, drawn, refused_orders, refused_size, verified}
 use Rattle.commands.specs.Completing.{FaultOrCompletion, completion_in}
 use Rattle.commands.specs.Inputs.{ClaimOnText, Drawable, alone, claim_on, history_in, with_claim}
+use Rattle.commands.specs.Told.{IsTold}
 use Rattle.commands.specs.Judging.{FaultOr, IsEvident, IsSound, IsVerdictClaim, Whether, said_by}
 
 -- ---- sizes
@@ -87,6 +90,22 @@ pub record DrawsDecided (options : DrawOptions) (added : Option ℕ) (text : His
   pub right : IsVerdictClaim (strict options.condition) (said_by text) claimed
   pub evident : IsEvident (strict options.condition) (claim_on text claimed)
   pub answered : DrawsSound options added (claim_on text claimed) answer
+
+-- ---- of the lines of a `YES` alone
+
+-- the picture with these lines as the claim, of the history that they tell of; or there is no such history
+abbrev pub DrawsTold : DrawOptions → List Operation → Reply → Type 0
+DrawsTold options lines answer =
+    ((history : HistoryView) × IsTold lines history
+    × DrawsPart options.condition.is_weakly_empty (said_in Two history)
+    (λ text a. DrawsSound options None (claim_on text (Yes lines)) a) answer)
+    ⊎ (((history : HistoryView) → ¬ IsTold lines history) × (answer ≡ verified false))
+
+-- the same if the lines are one linearization and are few
+abbrev pub DrawsYes : DrawOptions → List Operation → Reply → Type 0
+DrawsYes options lines answer = Whether (IsOneOrder options.condition.is_local (Yes lines))
+    (Whether (length lines ≤ MOST_DRAWN) (DrawsTold options lines answer) (answer ≡ refused_size))
+    (answer ≡ refused_orders)
 
 -- ---- `draw`
 

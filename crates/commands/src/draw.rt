@@ -9,8 +9,8 @@ ghost use Rattle.history_text.specs.Histories.{HasHistoryText};
 ghost use Rattle.history_text.specs.Versions.{HaveValueLines, said_in};
 ghost use Rattle.commands.specs.Answers.{refused_orders, refused_size};
 ghost use Rattle.commands.specs.Conditions.{IsTrueUnder};
-ghost use Rattle.commands.specs.Drawing.{Draws, DrawsAlone, DrawsClaim, DrawsDecided, DrawsPart, DrawsPending};
-ghost use Rattle.commands.specs.Drawing.{DrawsSound};
+ghost use Rattle.commands.specs.Drawing.{DrawsYes, Draws, DrawsAlone, DrawsClaim, DrawsDecided, DrawsPart, DrawsPending};
+ghost use Rattle.commands.specs.Drawing.{DrawsSound, DrawsYes};
 ghost use Rattle.commands.specs.Drawing.{IsOneOrder, picture_in, strict};
 ghost use Rattle.conditions.specs.Conditions.{without_empties};
 ghost use Rattle.verdicts.specs.Selection.{ArePartOf, contents_of};
@@ -23,6 +23,7 @@ use crate::complete::{completed, history_of_completion};
 use crate::input::{drawable_of, history_in};
 use crate::judging::{decide_under, verify_under};
 use crate::outcome::{Fault, Outcome, Report};
+use crate::told::history_told;
 use command_words::{Condition, DrawOptions, PictureForm};
 use completions::next_ticket;
 use conditions::without_empties;
@@ -32,7 +33,7 @@ use history_text::{PendingText, TextSource};
 use parallel_finders::OnePiece;
 use std::alloc::{AllocError, Global};
 use svg_picture::{html_picture, svg_picture};
-use verdicts::{Claimed, claim};
+use verdicts::{Claimed, Lines, claim};
 
 /// Answers `draw` for the text of a reader.
 pub(crate) fn draw<S: TextSource + Drop>(alloc: Global, reader: S, options: DrawOptions) -> Outcome
@@ -63,6 +64,25 @@ fn draw_claimed(
     recall_complete(&whole);
     let history = drawn_part(alloc, whole, options.condition.is_weakly_empty)?;
     draw_claim(alloc, &history, claimed, options)
+}
+
+/// Draws the history that the lines of a `YES` tell of, with these lines as its claim.
+fn draw_yes(alloc: Global, lines: Lines, options: DrawOptions) -> Outcome
+    ensures found { AnswersOrNoMemory (DrawsYes options) lines (answer_of result) }
+    ensures places { NamesPlaces result }
+{
+    if options.condition.is_local {
+        return Err(Fault::Orders);
+    }
+    if lines.len() > MOST_DRAWN {
+        return Err(Fault::Size);
+    }
+    let Some(whole) = history_told(alloc, lines.as_slice())? else {
+        return Ok(Report::Verified(false));
+    };
+    recall_complete(&whole);
+    let history = drawn_part(alloc, whole, options.condition.is_weakly_empty)?;
+    draw_claim(alloc, &history, &Claimed::Yes(lines), options)
 }
 
 /// Draws the history or the pending text with its verdict.

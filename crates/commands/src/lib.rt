@@ -20,6 +20,7 @@ mod sim;
 mod stderr;
 mod stress;
 mod texts;
+mod told;
 
 pub use args::{StartFault, args_of, print_start_fault};
 pub use command::{Exit, run_command, run_over};

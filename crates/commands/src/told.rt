@@ -1,0 +1,81 @@
+//! The history that the lines of a `YES` tell of.
+ghost use Rattle.std.specs.Prelude.{◌≡◌, ◌≤◌, ◌*◌, IfOk, IsPermutation, IsSortedByKey, IsTrue, MatchOption, length, vec_len};
+ghost use Rattle.std.specs.Ordering.{nat_cmp};
+ghost use Rattle.event_records.specs.declared.limits.TheConstants.{MAX_EVENTS, MAX_INITIAL};
+ghost use Rattle.history_merge.specs.Initial.{HistoryView};
+ghost use Rattle.drawing.specs.declared.columns.TheConstants.{MOST_DRAWN};
+ghost use Rattle.commands.specs.Told.{IsTold, dequeued_value, enqueues, events_told, is_enqueued, values_before};
+
+use event_records::Event;
+use history_merge::{History, HistoryFault, OpKind, Operation, history_from};
+use std::alloc::{AllocError, Global};
+
+/// Returns whether an operation of this kind enqueues this value.
+fn enqueues(value: u64, kind: OpKind) -> bool
+    ensures { result ≡ enqueues value kind }
+{
+    match kind {
+        OpKind::Enqueue(other) => other == value,
+        _ => false,
+    }
+}
+
+/// Returns whether one of the operations enqueues this value.
+fn is_enqueued(operations: &[Operation], value: u64) -> bool
+    ensures { result ≡ is_enqueued operations.now value }
+{
+    operations.iter().any(|o| enqueues(value, o.kind))
+}
+
+/// Returns the value that an operation of this kind dequeues.
+fn dequeued_value(kind: OpKind) -> Option<u64>
+    ensures { result ≡ dequeued_value kind }
+{
+    match kind {
+        OpKind::Dequeue(value) => Some(value),
+        _ => None,
+    }
+}
+
+/// Returns the values that the operations dequeue and none of them enqueues, in their order.
+fn values_before(alloc: Global, operations: &[Operation]) -> Result<Vec<u64>, AllocError>
+    ensures { IfOk result (λ values. values.items ≡ values_before operations.now) }
+{
+    operations
+        .iter()
+        .filter_map(|o| dequeued_value(o.kind))
+        .filter(|value| !is_enqueued(operations, *value))
+        .collect(alloc)
+}
+
+/// Returns the calls and returns of the operations, by ticket.
+fn events_told(alloc: Global, operations: &[Operation]) -> Result<Vec<Event>, AllocError>
+    ensures told { IfOk result (λ events. IsPermutation (events_told operations.now) events.items) }
+    ensures sorted { IfOk result (λ events. IsSortedByKey (λ e. e.ticket) nat_cmp events.items) }
+{
+    let mut events = Vec::new(alloc);
+    for operation in operations {
+        events.push(operation.call_event())?;
+        events.push(operation.return_event())?;
+    }
+    events.sort_by_key(|event| event.ticket)?;
+    Ok(events)
+}
+
+/// Returns the complete history of just these operations, of a queue that held the values at first that they dequeue
+/// and do not enqueue; or none if there is no such history. Takes O(n²) time for n operations.
+pub(crate) fn history_told(
+    alloc: Global,
+    operations: &[Operation],
+) -> Result<Option<History>, AllocError>
+    requires { length operations.now ≤ MOST_DRAWN }
+    ensures { IfOk result (λ found. MatchOption found (IsTold operations.now) ((history : HistoryView) → ¬ IsTold operations.now history)) }
+{
+    let initial = values_before(alloc, operations)?;
+    let events = events_told(alloc, operations)?;
+    match history_from(alloc, initial, &events) {
+        Ok(history) => Ok(Some(history)),
+        Err(HistoryFault::Memory) => Err(AllocError),
+        Err(_) => Ok(None),
+    }
+}
