@@ -144,7 +144,8 @@ Input: the text of a history, from its first line to the line `end N`, directly
 followed by the text of a verdict, from the line `YES` or `NO ..` on, as for
 `verify`. If nothing follows, the history is judged as by `check`, and drawn
 with that verdict. Or a pending text, as for `complete`: it is drawn as its
-completion, with the verdict on that.
+completion, with the verdict on that. Or a `YES` alone, as `shrink` prints it:
+the history of its operations is drawn.
 
 Output: a picture, as an SVG document, with `--html` as a page for a browser
 that shows what precedes an operation and unfolds what is left out, or with

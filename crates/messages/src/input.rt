@@ -140,8 +140,16 @@ fn part_behind(given: &Given<'_>, number: u64) -> Part {
     }
 }
 
+/// Returns whether the input is the text of a `YES` alone, which `draw` reads too.
+fn is_yes_alone(given: &Given<'_>) -> bool {
+    given.reads == Reads::Drawable && given.front.starts_with(b"YES\n")
+}
+
 /// Returns what the line of this number should be.
 pub(crate) fn part_of(given: &Given<'_>, number: u64) -> Part {
+    if number > 1 && is_yes_alone(given) {
+        return Part::Operation;
+    }
     if number == 1 {
         return Part::Header;
     }

@@ -126,16 +126,6 @@ pub(crate) fn format_hint(front: &[u8]) -> Option<&'static str> {
     None
 }
 
-/// Returns the advice for a verdict in place of a history.
-fn verdict_hint(reads: Reads) -> &'static str {
-    match reads {
-        Reads::Drawable => {
-            "a verdict comes after its history; of a YES shrink prints no history: fifobench draw < FILE draws it"
-        }
-        _ => "a verdict comes after the text of its history",
-    }
-}
-
 /// Returns the advice for a first line.
 fn header_hint(reads: Reads, line: &[u8]) -> &'static str {
     if let Some(hint) = format_hint(line) {
@@ -143,7 +133,7 @@ fn header_hint(reads: Reads, line: &[u8]) -> &'static str {
     } else if line.ends_with(b"\r") {
         CARRIAGE_RETURNS
     } else if line == b"YES".as_slice() || line.starts_with(b"NO V") {
-        verdict_hint(reads)
+        "a verdict comes after the text of its history"
     } else if line.starts_with(b"fifo-pending") {
         "a history with pending calls: fifobench complete < FILE | fifobench check judges it"
     } else if line.starts_with(b"fifo-schedule") {
