@@ -16,7 +16,7 @@ use Rattle.commands.specs.Drawing.{Draws, DrawsAlone, DrawsClaim, DrawsDecided, 
 use Rattle.commands.specs.Drawing.{DrawsTold, DrawsYes, IsDrawnWithout, strict}
 use Rattle.commands.specs.Answers.{refused_orders, refused_size}
 use Rattle.commands.specs.Told.{IsTold}
-use Rattle.commands.proofs.Told.{few_before, one_told}
+use Rattle.commands.proofs.Telling.{few_before, one_told}
 use Rattle.claims.specs.declared.claimed.Claimed.TheVariants.{Yes}
 use Rattle.drawing.specs.declared.columns.TheConstants.{MOST_DRAWN}
 use Rattle.history_merge.specs.declared.operation.Operation.{Operation}

@@ -1,7 +1,6 @@
 //! The history that the lines of a `YES` tell of.
-ghost use Rattle.std.specs.Prelude.{◌≡◌, ◌≤◌, ◌*◌, IfOk, IsPermutation, IsSortedByKey, IsTrue, MatchOption, length, vec_len};
-ghost use Rattle.std.specs.Ordering.{nat_cmp};
-ghost use Rattle.event_records.specs.declared.limits.TheConstants.{MAX_EVENTS, MAX_INITIAL};
+ghost use Rattle.std.specs.Prelude.{◌≡◌, ◌≤◌, IfOk, IsPermutation, MatchOption, length};
+ghost use Rattle.std.specs.List.Sorted.{IsNonDecreasingBy};
 ghost use Rattle.history_merge.specs.Initial.{HistoryView};
 ghost use Rattle.drawing.specs.declared.columns.TheConstants.{MOST_DRAWN};
 ghost use Rattle.commands.specs.Told.{IsTold, dequeued_value, enqueues, events_told, is_enqueued, values_before};
@@ -48,18 +47,26 @@ fn values_before(alloc: Global, operations: &[Operation]) -> Result<Vec<u64>, Al
         .collect(alloc)
 }
 
-/// Returns the calls and returns of the operations, by ticket.
+/// Returns the call and the return of each operation, in the order of the operations.
 fn events_told(alloc: Global, operations: &[Operation]) -> Result<Vec<Event>, AllocError>
-    ensures told { IfOk result (λ events. IsPermutation (events_told operations.now) events.items) }
-    ensures sorted { IfOk result (λ events. IsSortedByKey (λ e. e.ticket) nat_cmp events.items) }
+    ensures { IfOk result (λ events. events.items ≡ events_told operations.now) }
 {
     let mut events = Vec::new(alloc);
     for operation in operations {
-        events.push(operation.call_event())?;
-        events.push(operation.return_event())?;
+        let both = [operation.call_event(), operation.return_event()];
+        events.extend_from_slice(&both)?;
     }
-    events.sort_by_key(|event| event.ticket)?;
     Ok(events)
+}
+
+/// Returns these events by ticket.
+fn by_ticket(events: Vec<Event>) -> Result<Vec<Event>, AllocError>
+    ensures moved { IfOk result (λ sorted. IsPermutation events.items sorted.items) }
+    ensures sorted { IfOk result (λ sorted. IsNonDecreasingBy (λ e. e.ticket) sorted.items) }
+{
+    let mut sorted = events;
+    sorted.sort_by_key(|event| event.ticket)?;
+    Ok(sorted)
 }
 
 /// Returns the complete history of just these operations, of a queue that held the values at first that they dequeue
@@ -69,13 +76,14 @@ pub(crate) fn history_told(
     operations: &[Operation],
 ) -> Result<Option<History>, AllocError>
     requires { length operations.now ≤ MOST_DRAWN }
-    ensures { IfOk result (λ found. MatchOption found (IsTold operations.now) ((history : HistoryView) → ¬ IsTold operations.now history)) }
+    ensures { IfOk result (λ found.
+        MatchOption found ((history : HistoryView) → ¬ IsTold operations.now history) (IsTold operations.now)) }
 {
     let initial = values_before(alloc, operations)?;
-    let events = events_told(alloc, operations)?;
+    let events = by_ticket(events_told(alloc, operations)?)?;
     match history_from(alloc, initial, &events) {
         Ok(history) => Ok(Some(history)),
-        Err(HistoryFault::Memory) => Err(AllocError),
+        Err(fault) if fault == HistoryFault::Memory => Err(AllocError),
         Err(_) => Ok(None),
     }
 }

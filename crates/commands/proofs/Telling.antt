@@ -1,5 +1,5 @@
 -- The lines of a `YES` tell of one history at most.
-use Rattle.std.proofs.Common.{◌≡◌, ◌≤◌, ℕ, suc, List, [], ◌∷◌, length, refl, sym, ap, ◌∙◌, subst, arith, IsPermutation}
+use Rattle.std.proofs.Common.{◌≡◌, ◌≤◌, ◌+◌, ℕ, suc, List, [], ◌∷◌, length, refl, sym, ap, ◌∙◌, subst, arith, IsPermutation}
 use Rattle.std.specs.Prelude.{Bool, Contains, filter, filter_map, if◌then◌else◌, not, Option, Some, None, true, false}
 use Rattle.std.specs.List.{cons_option}
 use Rattle.std.specs.List.Sorted.{IsNonDecreasingBy}
@@ -62,3 +62,8 @@ few_before lines =
     let kept = length-filter fresh values in
     let few = count_by-le-length fresh values in
     omega arith
+
+-- there are two events for each line
+pub two_told : (lines : List Operation) → length (events_told lines) ≡ length lines + length lines
+two_told [] = refl
+two_told (o ∷ lines) = let rest = two_told lines in omega arith
