@@ -13,7 +13,7 @@ use Rattle.command_words.specs.declared.options.DrawOptions.{DrawOptions}
 use Rattle.commands.specs.Completing.{completion_in, IsCompletable}
 use Rattle.command_words.specs.declared.options.PictureForm.{PictureForm}
 use Rattle.commands.specs.Drawing.{Draws, DrawsAlone, DrawsClaim, DrawsDecided, DrawsHistory, DrawsPart, DrawsSound}
-use Rattle.commands.specs.Drawing.{DrawsTold, DrawsYes, IsDrawnWithout, strict}
+use Rattle.commands.specs.Drawing.{DrawsTold, DrawsYes, IsDrawnWithout, IsOneOrder, strict}
 use Rattle.commands.specs.Answers.{refused_orders, refused_size}
 use Rattle.commands.specs.Told.{IsTold}
 use Rattle.commands.proofs.Telling.{few_before, one_told}
@@ -94,6 +94,12 @@ one_alone options text None a b has =
     one_of_history (said_by (history_in text)) a b (λ complete.
     one_part options.condition.is_weakly_empty (history_in text) (DrawsDecided options None) a b few complete
     (λ t few_in sound. one_decided options None t a b few_in sound))
+
+-- few lines of one linearization are drawn with the history that they tell of
+pub drawn_yes : (options : DrawOptions) (lines : List Operation) (answer : Reply) → options.condition.is_local ≡ false
+    → length lines ≤ MOST_DRAWN → DrawsTold options lines answer → DrawsYes options lines answer
+drawn_yes options lines answer together few told =
+    inl (subst (λ (b : Bool). IsOneOrder b (Yes lines)) (sym together) tt, inl (few, told))
 
 -- the lines of a `YES` have one picture
 one_yes : (options : DrawOptions) (lines : List Operation) (a b : Reply) → DrawsYes options lines a → DrawsYes options lines b → a ≡ b

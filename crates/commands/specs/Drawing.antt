@@ -1,5 +1,5 @@
 -- The answers of `draw` to a history, to one with a claim, and to one whose calls may be pending.
-use Rattle.std.specs.Prelude.{◌≡◌, ◌≤◌, ℕ, Bool, false, true, List, length, Option, Some, None, ⊤}
+use Rattle.std.specs.Prelude.{◌⊎◌, ◌≡◌, ◌≤◌, ℕ, Bool, false, true, List, length, Option, Some, None, ⊤}
 use Rattle.command_words.specs.declared.options.Condition.{Condition}
 use Rattle.command_words.specs.declared.options.DrawOptions.{DrawOptions}
 use Rattle.command_words.specs.declared.options.PictureForm.{PictureForm}

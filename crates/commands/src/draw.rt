@@ -77,8 +77,9 @@ fn draw_yes(alloc: Global, lines: Lines, options: DrawOptions) -> Outcome
     if lines.len() > MOST_DRAWN {
         return Err(Fault::Size);
     }
-    let Some(whole) = history_told(alloc, lines.as_slice())? else {
-        return Ok(Report::Verified(false));
+    let whole = match history_told(alloc, lines.as_slice())? {
+        Some(whole) => whole,
+        None => return Ok(Report::Verified(false)),
     };
     recall_complete(&whole);
     let history = drawn_part(alloc, whole, options.condition.is_weakly_empty)?;
