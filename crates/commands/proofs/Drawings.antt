@@ -22,7 +22,7 @@ use Rattle.drawing.specs.declared.columns.TheConstants.{MOST_DRAWN}
 use Rattle.history_merge.specs.declared.operation.Operation.{Operation}
 use Rattle.history_text.specs.declared.version.Version.TheVariants.{Two}
 use mathlib.Core.Logic.{◌⊎◌}
-use Rattle.commands.specs.Inputs.{history_in}
+use Rattle.commands.specs.Inputs.{history_in, of_yes}
 use Rattle.commands.specs.Judging.{IsVerdictClaim}
 use Rattle.completions.proofs.Sound.{may_be_pending}
 use Rattle.completions.proofs.Within.{decides_within}
@@ -140,6 +140,7 @@ one_picture options input (alone text) a b is = one_alone options text text.open
 one_picture options input (with_claim claim) a b is = one_of_history (said_by claim.text) a b (λ complete.
     one_part options.condition.is_weakly_empty claim.text (λ text x. DrawsSound options None (claim_on text claim.claimed) x) a b (few_values claim.text is.history) complete
     (λ t few sound. one_drawn options None (claim_on t claim.claimed) a b))
+one_picture options input (of_yes operations) a b is = one_yes options operations a b
 
 pub draw_has_one : (options : DrawOptions) → HasOneAnswer (draw options)
 draw_has_one options = one_answer one_drawable (Draws options) (one_picture options)

@@ -8,10 +8,18 @@ use Rattle.commands.proofs.Common.{NoRoomForText, NoRoomForVerdict, Option, refl
 use Rattle.commands.proofs.Common.{sym, Takes, text_of, TextFault, verdict_text, with_claim, [], ℕ, ◌++◌, ◌∙◌, ◌≡◌}
 use Rattle.commands.proofs.Common.{◌≢◌, ◌⊎◌}
 use Rattle.commands.specs.Inputs.{AfterText, FaultBehind, IsFaultBehind, IsFaultOfEnd, IsFaultOfOneText, IsFaultOfScheduleInput}
-use Rattle.commands.specs.Inputs.{history_in, IsFaultOfTexts, IsScheduleOf, IsWhole, LacksVerdict}
-use Rattle.history_text.specs.Reading.{Fails, HasEndFault, HasFirstFault, HasMore, HasTextFault, HasVerdictTextFault, IsEndFault, IsOver}
+use Rattle.commands.specs.Inputs.{begins_as_yes, FaultByFirst, history_in, IsFaultOfDrawnText, IsFaultOfTexts, IsFaultOfVerdictInput, IsScheduleOf}
+use Rattle.commands.specs.Inputs.{IsWhole, LacksVerdict, of_yes}
+use Rattle.commands.specs.Inner.Inputs.{BeginsAsYes}
+use Rattle.history_text.specs.Reading.{Fails, HasEndFault, HasFirstFault, HasMore, HasTextFault, HasVerdictTextFault, IsEndFault, IsNext, IsOver}
 use Rattle.history_text.specs.Reading.{Left, MayBeLeft, OfLeft}
-use Rattle.history_text.proofs.Consuming.{before_end, taken_through}
+use Rattle.history_text.specs.Pending.{first_line_of}
+use Rattle.history_text.proofs.Consuming.{before_end, some_left, taken_through}
+use Rattle.history_merge.specs.declared.operation.Operation.{Operation}
+use Rattle.claims.specs.declared.claimed.ClaimLine.{ClaimLine}
+use Rattle.claims.specs.declared.claimed.ViolationKind.{ViolationKind}
+use Rattle.commands.proofs.Common.{line, One, Two, Version, ◌∷◌}
+use Rattle.std.proofs.Common.{◌==◌}
 use Rattle.text_lines.proofs.MemoryOrNot.{follows, is_memory, known_fault}
 use Rattle.text_lines.specs.declared.fault.TextFault.TheVariants.{Read}
 use Rattle.claims.specs.declared.claimed.Claimed.TheVariants.{No, Yes}
@@ -46,11 +54,19 @@ from_start known P found = record {
   is_so = found.is_so;
 }
 
+-- the input that was left is what was taken of it, if it is over then
+pub over_left : (old left : Left) (text : List ℕ) (P : Ahead → Type 0) → Takes old left text → IsOver EndOfInput left → P (input_of text) → OfLeft old P
+over_left old left text P taken over is = before_end old left EndOfInput text (λ e b. P (record { bytes = b; ending = e })) taken over is
+
+-- so it is if nothing was taken after that
+pub whole_left : (old mid left : Left) (text : List ℕ) (P : Ahead → Type 0) → Takes old mid text → Takes mid left []
+    → IsOver EndOfInput left → P (input_of text) → OfLeft old P
+whole_left old mid left text P before after = over_left old left text P (taken_through old mid left text before after)
+
 -- the input is what was taken of it, if it is over then
 pub over_input : (known : Known) (left : Left) (text : List ℕ) (P : Ahead → Type 0) → Takes (start known) left text → IsOver EndOfInput left
     → P (input_of text) → OfInput known P
-over_input known left text P taken over is =
-    from_start known P (before_end (start known) left EndOfInput text (λ e b. P (record { bytes = b; ending = e })) taken over is)
+over_input known left text P taken over is = from_start known P (over_left (start known) left text P taken over is)
 
 -- so it is if nothing was taken after that
 pub whole_input : (known : Known) (mid left : Left) (text : List ℕ) (P : Ahead → Type 0) → Takes (start known) mid text → Takes mid left []
@@ -77,28 +93,40 @@ module _ {A : Type 0} (Has : A → Type 0) (said : A → List ℕ) (IsFirst : �
   abbrev IsFault : Ahead → TextFault → Type 0
   IsFault a f = IsFirst 0 a.ending a.bytes f ⊎ AfterText Has said (λ value rest. IsNext value a.ending rest f) a.bytes
 
-  -- a fault of the text
-  pub first_fault : (known : Known) (fault : TextFault) → HasFirstFault (IsFirst 0) LacksRoom (start known) fault
-      → OfInput known (λ a. IsFaultOfTexts Has said (IsFirst 0) LacksRoom IsNext LacksNext a fault)
-  first_fault known fault h = from_start known (λ a. IsFaultOfTexts Has said (IsFirst 0) LacksRoom IsNext LacksNext a fault) (record {
+  -- a fault of the text, where this input is left before it
+  pub first_fault_of : (old : Left) (fault : TextFault) → HasFirstFault (IsFirst 0) LacksRoom old fault
+      → OfLeft old (λ a. IsFaultOfTexts Has said (IsFirst 0) LacksRoom IsNext LacksNext a fault)
+  first_fault_of old fault h = record {
     input = h.input;
     may = h.may;
     is_so = follows (LacksRoom h.input.bytes) (Lacks h.input) (IsFirst 0 h.input.ending h.input.bytes) (IsFault h.input) fault inl (λ f. inl) h.is_so;
-  })
+  }
 
-  -- a fault of what comes after the text
-  pub next_fault : (known : Known) (left : Left) (value : A) (fault : TextFault) → Has value → Takes (start known) left (said value)
-      → HasFirstFault (IsNext value) (LacksNext value) left fault
+  -- a fault of the text
+  pub first_fault : (known : Known) (fault : TextFault) → HasFirstFault (IsFirst 0) LacksRoom (start known) fault
       → OfInput known (λ a. IsFaultOfTexts Has said (IsFirst 0) LacksRoom IsNext LacksNext a fault)
-  next_fault known left value fault has taken h = from_start known (λ a. IsFaultOfTexts Has said (IsFirst 0) LacksRoom IsNext LacksNext a fault)
-      (moved (λ b. MemoryOr (LacksNext value b.bytes) (IsNext value b.ending b.bytes) fault)
-      (λ a. IsFaultOfTexts Has said (IsFirst 0) LacksRoom IsNext LacksNext a fault) (start known) left (said value) taken (behind_value value has) h)
+  first_fault known fault h =
+      from_start known (λ a. IsFaultOfTexts Has said (IsFirst 0) LacksRoom IsNext LacksNext a fault) (first_fault_of (start known) fault h)
+
+  -- a fault of what comes after the text, where this input is left before that
+  pub next_fault_of : (old left : Left) (value : A) (fault : TextFault) → Has value → Takes old left (said value)
+      → HasFirstFault (IsNext value) (LacksNext value) left fault
+      → OfLeft old (λ a. IsFaultOfTexts Has said (IsFirst 0) LacksRoom IsNext LacksNext a fault)
+  next_fault_of old left value fault has taken h = moved (λ b. MemoryOr (LacksNext value b.bytes) (IsNext value b.ending b.bytes) fault)
+      (λ a. IsFaultOfTexts Has said (IsFirst 0) LacksRoom IsNext LacksNext a fault) old left (said value) taken (behind_value value has) h
     where
       behind_value : (x : A) → Has x → (b : Ahead) → MemoryOr (LacksNext x b.bytes) (IsNext x b.ending b.bytes) fault
           → IsFaultOfTexts Has said (IsFirst 0) LacksRoom IsNext LacksNext (after (said x) b) fault
       behind_value x has_x b = follows (LacksNext x b.bytes) (Lacks (after (said x) b)) (IsNext x b.ending b.bytes) (IsFault (after (said x) b)) fault
           (λ room. inr (record { value = x; rest = b.bytes; has = has_x; front = refl; after = room }))
           (λ f next. inr (record { value = x; rest = b.bytes; has = has_x; front = refl; after = next }))
+
+  -- a fault of what comes after the text
+  pub next_fault : (known : Known) (left : Left) (value : A) (fault : TextFault) → Has value → Takes (start known) left (said value)
+      → HasFirstFault (IsNext value) (LacksNext value) left fault
+      → OfInput known (λ a. IsFaultOfTexts Has said (IsFirst 0) LacksRoom IsNext LacksNext a fault)
+  next_fault known left value fault has taken h = from_start known (λ a. IsFaultOfTexts Has said (IsFirst 0) LacksRoom IsNext LacksNext a fault)
+      (next_fault_of (start known) left value fault has taken h)
 
   module _ {judge : ℕ → Ending → List ℕ → Result (A × List ℕ) TextFault} (judged : IsJudged Has said Anything IsFirst judge)
       (one_next : (x : A) (ending : Ending) (rest : List ℕ) (f g : TextFault) → IsNext x ending rest f → IsNext x ending rest g → f ≡ g) where
@@ -269,7 +297,7 @@ verdict_fault known left text lines fault has taken is h =
     next_fault HasText text_of IsTextFault NoRoomForText (λ t. IsVerdictTextFault (line_count t)) (λ _. NoRoomForVerdict)
     known left text fault has taken (rw is at h)
 
--- ---- a history, and a verdict on it if anything follows; or a text that counts pending calls
+-- ---- a history, and a verdict on it if anything follows; or a text that counts pending calls; or a `YES` alone
 
 -- a verdict has some text
 no_empty_verdict : (claimed : Claimed) → [] ≡ verdict_text claimed → ⊥
@@ -284,11 +312,46 @@ alone_without_claim input text claim is_text is_claim =
     ∙ ap (λ t. t ++ verdict_text claim.claimed) (sym (same_text claim.text))) in
     no_empty_verdict claim.claimed parts.1
 
+-- the text of a history begins otherwise than a `YES`
+begins_otherwise : (is_pending : Bool) (version : Version) (more rest : List ℕ)
+    → begins_as_yes ((line (first_line_of is_pending version) ++ more) ++ rest) ≡ false
+begins_otherwise false One more rest = refl
+begins_otherwise false Two more rest = refl
+begins_otherwise true One more rest = refl
+begins_otherwise true Two more rest = refl
+
+text_begins : (input : Ahead) (t : PendingText) (rest : List ℕ) → input.bytes ≡ pending_text t ++ rest → begins_as_yes input.bytes ≡ false
+text_begins input t rest front = ap begins_as_yes front ∙ begins_otherwise (is_some t.open_calls) t.version _ rest
+
+alone_begins : (input : Ahead) (t : PendingText) → IsDrawableOf input (alone t) → begins_as_yes input.bytes ≡ false
+alone_begins input t is = text_begins input t [] (is.1.bytes ∙ sym (append-nil (pending_text t)))
+
+claim_begins : (input : Ahead) (x : ClaimOnText) → IsClaimOf input x → begins_as_yes input.bytes ≡ false
+claim_begins input x is = text_begins input (as_pending x.text) (verdict_text x.claimed)
+    (is.whole.bytes ∙ ap (λ t. t ++ verdict_text x.claimed) (sym (same_text x.text)))
+
+yes_begins : (input : Ahead) (operations : List Operation) → IsDrawableOf input (of_yes operations) → begins_as_yes input.bytes ≡ true
+yes_begins input operations is = ap begins_as_yes is.1.bytes
+
+-- an input doesn't begin both as a `YES` and otherwise
+not_both : (bytes : List ℕ) → begins_as_yes bytes ≡ true → begins_as_yes bytes ≡ false → ⊥
+not_both bytes is isnt = let both = sym is ∙ isnt in cc
+
+abbrev listed : Claimed → List Operation
+listed (Yes operations) = operations
+listed (No kind lines) = []
+
 one_drawable_of : (input : Ahead) (x y : Drawable) → IsDrawableOf input x → IsDrawableOf input y → x ≡ y
 one_drawable_of input (alone x) (alone y) is_x is_y = ap (λ t. alone t) ((one_pending_text false).one_value input x y is_x is_y)
 one_drawable_of input (alone x) (with_claim y) is_x is_y = absurd (alone_without_claim input x y is_x is_y)
 one_drawable_of input (with_claim x) (alone y) is_x is_y = absurd (alone_without_claim input y x is_y is_x)
 one_drawable_of input (with_claim x) (with_claim y) is_x is_y = ap (λ c. with_claim c) (one_claim_of input x y is_x is_y)
+one_drawable_of input (of_yes x) (of_yes y) is_x is_y =
+    ap (λ c. of_yes (listed c)) (verdict_texts.texts_agree (Yes x) (Yes y) is_x.0 is_y.0 (sym is_x.1.bytes ∙ is_y.1.bytes))
+one_drawable_of input (of_yes x) (alone y) is_x is_y = absurd (not_both input.bytes (yes_begins input x is_x) (alone_begins input y is_y))
+one_drawable_of input (of_yes x) (with_claim y) is_x is_y = absurd (not_both input.bytes (yes_begins input x is_x) (claim_begins input y is_y))
+one_drawable_of input (alone x) (of_yes y) is_x is_y = absurd (not_both input.bytes (yes_begins input y is_y) (alone_begins input x is_x))
+one_drawable_of input (with_claim x) (of_yes y) is_x is_y = absurd (not_both input.bytes (yes_begins input y is_y) (claim_begins input x is_x))
 
 -- the input after a text has one fault
 one_behind : (calls : Option ℕ) (lines : ℕ) (ending : Ending) (rest : List ℕ) (f g : TextFault) → FaultBehind calls lines ending rest f
@@ -301,12 +364,26 @@ none_behind : (calls : Option ℕ) (lines : ℕ) (ending : Ending) (fault : Text
 none_behind (Some n) lines ending fault over next = none_at_end fault (rw over at next)
 none_behind None lines ending fault over next = next.1 (refl, over)
 
+-- the input is one history with a claim, or one text alone
+abbrev IsTextOf : Ahead → Drawable → Type 0
+IsTextOf input (alone text) = IsDrawableOf input (alone text)
+IsTextOf input (with_claim claim) = IsClaimOf input claim
+IsTextOf input (of_yes operations) = ⊥
+
 -- an input is one history with a claim, or one text alone, or has one fault
-pub one_drawable : SaysOneThing IsDrawableOf IsFaultOfDrawableInput
-one_drawable = says_one_thing HasPendingText pending_text (IsPendingTextFault false) NoRoomForPending IsFaultBehind LacksVerdict (pendings.judged false)
-    (λ t ending rest f g. one_behind t.open_calls (pending_line_count t) ending rest f g) IsDrawableOf one_drawable_of parts
+one_drawn_text : SaysOneThing IsTextOf IsFaultOfDrawnText
+one_drawn_text = says_one_thing HasPendingText pending_text (IsPendingTextFault false) NoRoomForPending IsFaultBehind LacksVerdict (pendings.judged false)
+    (λ t ending rest f g. one_behind t.open_calls (pending_line_count t) ending rest f g) IsTextOf one_text_of parts
   where
-    parts : (input : Ahead) (x : Drawable) → IsDrawableOf input x → (text : PendingText) × (rest : List ℕ) × HasPendingText text
+    as_drawable : (input : Ahead) (x : Drawable) → IsTextOf input x → IsDrawableOf input x
+    as_drawable input (alone x) is = is
+    as_drawable input (with_claim x) is = is
+    as_drawable input (of_yes x) is = absurd is
+
+    one_text_of : (input : Ahead) (x y : Drawable) → IsTextOf input x → IsTextOf input y → x ≡ y
+    one_text_of input x y is_x is_y = one_drawable_of input x y (as_drawable input x is_x) (as_drawable input y is_y)
+
+    parts : (input : Ahead) (x : Drawable) → IsTextOf input x → (text : PendingText) × (rest : List ℕ) × HasPendingText text
         × (input.bytes ≡ pending_text text ++ rest) × ((fault : TextFault) → IsFaultBehind text input.ending rest fault → ⊥)
     parts input (alone x) is = (
       x,
@@ -318,6 +395,40 @@ one_drawable = says_one_thing HasPendingText pending_text (IsPendingTextFault fa
     parts input (with_claim x) is =
         let p = claim_parts input x is in
         (as_pending p.0, p.1, has_same p.0 p.2, p.3 ∙ ap (λ t. t ++ p.1) (sym (same_text p.0)), λ fault next. p.4 fault next.0)
+    parts input (of_yes x) is = absurd is
+
+-- a `YES` has no fault but out of memory
+only_memory_yes : (input : Ahead) (operations : List Operation) (fault : TextFault) → IsDrawableOf input (of_yes operations) → fault ≢ text.Memory
+    → IsFaultOfVerdictInput input fault → ⊥
+only_memory_yes input operations fault is known faulty =
+    let first = known_fault (NoRoomForVerdict input.bytes) (IsVerdictTextFault 0 input.ending input.bytes) fault known faulty in
+    verdict_texts.text_has_no_fault 0 (Yes operations) fault is.0
+    (subst (λ e. IsVerdictTextFault 0 e (verdict_text (Yes operations)) fault) is.1.ending
+    (subst (λ b. IsVerdictTextFault 0 input.ending b fault) is.1.bytes first))
+
+only_memory_drawable : (input : Ahead) (x : Drawable) (fault : TextFault) → IsDrawableOf input x → fault ≢ text.Memory → IsFaultOfDrawableInput input fault → ⊥
+only_memory_drawable input (alone x) fault is known faulty = one_drawn_text.only_memory input (alone x) fault is known
+    (subst (λ b. FaultByFirst b input fault) (alone_begins input x is) faulty)
+only_memory_drawable input (with_claim x) fault is known faulty = one_drawn_text.only_memory input (with_claim x) fault is known
+    (subst (λ b. FaultByFirst b input fault) (claim_begins input x is) faulty)
+only_memory_drawable input (of_yes x) fault is known faulty = only_memory_yes input x fault is known
+    (subst (λ b. FaultByFirst b input fault) (yes_begins input x is) faulty)
+
+one_fault_by : (is_yes : Bool) (input : Ahead) (f g : TextFault) → f ≢ text.Memory → g ≢ text.Memory → FaultByFirst is_yes input f
+    → FaultByFirst is_yes input g → f ≡ g
+one_fault_by false input f g known_f known_g is_f is_g = one_drawn_text.one_fault input f g known_f known_g is_f is_g
+one_fault_by true input f g known_f known_g is_f is_g =
+    let IsFirst = IsVerdictTextFault 0 input.ending input.bytes in
+    one_first_fault verdict_texts.judged 0 input.ending input.bytes f g (known_fault (NoRoomForVerdict input.bytes) IsFirst f known_f is_f)
+    (known_fault (NoRoomForVerdict input.bytes) IsFirst g known_g is_g)
+
+-- an input is one history with a claim, or one text alone, or one `YES`, or has one fault
+pub one_drawable : SaysOneThing IsDrawableOf IsFaultOfDrawableInput
+one_drawable = record {
+  one_value = one_drawable_of;
+  only_memory = only_memory_drawable;
+  one_fault = λ input f g. one_fault_by (begins_as_yes input.bytes) input f g;
+}
 
 -- a text without a count of pending calls is a history's
 pub plain_text : (text : PendingText) → is_some text.open_calls ≡ false → HasPendingText text
@@ -332,9 +443,8 @@ plain_text text plain has =
     none_counted (Some n) none = absurd (cc)
 
 -- a fault of the text
-pub drawable_text_fault : (known : Known) (fault : TextFault) → HasPendingTextFault false 0 (start known) fault
-    → OfInput known (λ a. IsFaultOfDrawableInput a fault)
-drawable_text_fault = first_fault HasPendingText pending_text (IsPendingTextFault false) NoRoomForPending IsFaultBehind LacksVerdict
+pub drawable_text_fault : (old : Left) (fault : TextFault) → HasPendingTextFault false 0 old fault → OfLeft old (λ a. IsFaultOfDrawnText a fault)
+drawable_text_fault = first_fault_of HasPendingText pending_text (IsPendingTextFault false) NoRoomForPending IsFaultBehind LacksVerdict
 
 -- a text that isn't cut off is whole
 pub read_whole : (lines : ℕ) (old new : Left) (text : PendingText) (whole : Bool) → IsPendingRead false lines old new text whole
@@ -343,9 +453,9 @@ read_whole lines old new text true read = (refl, read.0, read.1)
 read_whole lines old new text false read = let cut = read.0 in absurd (cc)
 
 -- a fault of what comes after a text
-behind_text : (known : Known) (left : Left) (text : PendingText) (fault : TextFault) → HasPendingText text → Takes (start known) left (pending_text text)
-    → HasFirstFault (IsFaultBehind text) (LacksVerdict text) left fault → OfInput known (λ a. IsFaultOfDrawableInput a fault)
-behind_text = next_fault HasPendingText pending_text (IsPendingTextFault false) NoRoomForPending IsFaultBehind LacksVerdict
+behind_text : (old left : Left) (text : PendingText) (fault : TextFault) → HasPendingText text → Takes old left (pending_text text)
+    → HasFirstFault (IsFaultBehind text) (LacksVerdict text) left fault → OfLeft old (λ a. IsFaultOfDrawnText a fault)
+behind_text = next_fault_of HasPendingText pending_text (IsPendingTextFault false) NoRoomForPending IsFaultBehind LacksVerdict
 
 module _ (calls : Option ℕ) (lines : ℕ) (left : Left) (fault : TextFault) where
   -- the fault of what comes after a text with this count of pending calls and this many lines
@@ -385,26 +495,81 @@ module _ (calls : Option ℕ) (lines : ℕ) (left : Left) (fault : TextFault) wh
           (λ f first. (first, λ over. let nothing = sym some.2 ∙ over.0 in cc)) k
 
 -- a fault of what follows a text that counts pending calls
-pub drawable_end_fault : (known : Known) (left : Left) (text : PendingText) (fault : TextFault) → is_some text.open_calls ≡ true
-    → HasPendingText text → Takes (start known) left (pending_text text) → HasEndFault left fault
-    → OfInput known (λ a. IsFaultOfDrawableInput a fault)
-drawable_end_fault known left text fault counts has taken h =
-    behind_text known left text fault has taken (end_behind text.open_calls (pending_line_count text) left fault counts h)
+pub drawable_end_fault : (old left : Left) (text : PendingText) (fault : TextFault) → is_some text.open_calls ≡ true
+    → HasPendingText text → Takes old left (pending_text text) → HasEndFault left fault → OfLeft old (λ a. IsFaultOfDrawnText a fault)
+drawable_end_fault old left text fault counts has taken h =
+    behind_text old left text fault has taken (end_behind text.open_calls (pending_line_count text) left fault counts h)
 
 -- a read that failed where the verdict on a history may begin
-pub drawable_read_fault : (known : Known) (left : Left) (text : PendingText) (fault : TextFault) → is_some text.open_calls ≡ false
-    → HasPendingText text → Takes (start known) left (pending_text text) → (fault ≡ Read) × OfLeft left Fails
-    → OfInput known (λ a. IsFaultOfDrawableInput a fault)
-drawable_read_fault known left text fault counts has taken failed =
-    behind_text known left text fault has taken (failure_behind text.open_calls (pending_line_count text) left fault counts failed)
+pub drawable_read_fault : (old left : Left) (text : PendingText) (fault : TextFault) → is_some text.open_calls ≡ false
+    → HasPendingText text → Takes old left (pending_text text) → (fault ≡ Read) × OfLeft left Fails → OfLeft old (λ a. IsFaultOfDrawnText a fault)
+drawable_read_fault old left text fault counts has taken failed =
+    behind_text old left text fault has taken (failure_behind text.open_calls (pending_line_count text) left fault counts failed)
+
+-- a byte is ahead if one comes next
+has_more : (left : Left) (next : Option ℕ) → is_some next ≡ true → IsNext left next → (a : Ahead) → MayBeLeft left a → HasMore a
+has_more left None some comes a may = absurd (cc)
+has_more left (Some b) some comes a may = let next = comes a may in (b, next.0, next.1)
 
 -- a fault of what follows a history, as the text of a verdict
-pub drawable_verdict_fault : (known : Known) (mid left : Left) (text : PendingText) (lines : ℕ) (fault : TextFault) → is_some text.open_calls ≡ false
-    → HasPendingText text → Takes (start known) mid (pending_text text) → Takes mid left [] → ((a : Ahead) → MayBeLeft left a → HasMore a)
-    → lines ≡ pending_line_count text → HasVerdictTextFault lines left fault → OfInput known (λ a. IsFaultOfDrawableInput a fault)
-drawable_verdict_fault known mid left text lines fault counts has before taken more is h =
-    behind_text known left text fault has (taken_through (start known) mid left (pending_text text) before taken)
-    (verdict_behind text.open_calls (pending_line_count text) left fault counts more (rw is at h))
+pub drawable_verdict_fault : (old mid left : Left) (text : PendingText) (lines : ℕ) (fault : TextFault) (next : Option ℕ)
+    → is_some text.open_calls ≡ false → HasPendingText text → Takes old mid (pending_text text) → Takes mid left []
+    → is_some next ≡ true → IsNext left next
+    → lines ≡ pending_line_count text → HasVerdictTextFault lines left fault → OfLeft old (λ a. IsFaultOfDrawnText a fault)
+drawable_verdict_fault old mid left text lines fault next counts has before taken some comes is h =
+    behind_text old left text fault has (taken_through old mid left (pending_text text) before taken)
+    (verdict_behind text.open_calls (pending_line_count text) left fault counts (has_more left next some comes) (rw is at h))
+
+-- ---- the first byte of the input
+
+-- the input is over if none comes next
+pub none_next : (left : Left) (next : Option ℕ) → is_some next ≡ false → IsNext left next → IsOver EndOfInput left
+none_next left None none comes = comes
+none_next left (Some b) none comes = absurd (cc)
+
+-- the next byte says whether the input begins as a `YES`
+pub begins_with_byte : (left : Left) (b : ℕ) → IsNext left (Some b) → BeginsAsYes left (b == 89)
+begins_with_byte left b comes a may = ap begins_as_yes (comes a may).1
+
+-- no input begins so
+pub begins_with_none : (left : Left) → IsNext left None → BeginsAsYes left false
+begins_with_none left over a may = ap (λ (x : Ahead). begins_as_yes x.bytes) (over.only a may)
+
+-- a `NO` begins otherwise
+pub no_begins_otherwise : (old new : Left) (kind : ViolationKind) (lines : List ClaimLine) → BeginsAsYes old true → Takes old new (verdict_text (No kind lines)) → ⊥
+no_begins_otherwise old new kind lines begins taken =
+    let some = some_left new in
+    let is = begins (after (verdict_text (No kind lines)) some.0) (taken.before some.0 some.1) in cc
+
+-- a fact about the input that was left before the first byte was looked at
+looked : (known : Known) (left : Left) (P Q : Ahead → Type 0) → Takes (start known) left [] → ((a : Ahead) → MayBeLeft left a → P a → Q a) → OfLeft left P
+    → OfInput known Q
+looked known left P Q taken step h = from_start known Q (record {
+  input = h.input;
+  may = taken.before h.input h.may;
+  is_so = step h.input h.may h.is_so;
+})
+
+-- so a text or a `YES` that is all of it is all of the input
+pub looked_at : (known : Known) (left : Left) (P : Ahead → Type 0) → Takes (start known) left [] → OfLeft left P → OfInput known P
+looked_at known left P taken h = looked known left P P taken (λ a may is. is) h
+
+-- and a fault of it is one of the input
+pub fault_by_first : (known : Known) (left : Left) (is_yes : Bool) (fault : TextFault) → Takes (start known) left [] → BeginsAsYes left is_yes
+    → OfLeft left (λ a. FaultByFirst is_yes a fault) → OfInput known (λ a. IsFaultOfDrawableInput a fault)
+fault_by_first known left is_yes fault taken begins h = looked known left (λ a. FaultByFirst is_yes a fault) (λ a. IsFaultOfDrawableInput a fault) taken
+    (λ a may is. subst (λ b. FaultByFirst b a fault) (sym (begins a may)) is) h
+
+-- a read of the first byte that failed
+pub first_byte_fault : (known : Known) (fault : TextFault) → (fault ≡ Read) × OfLeft (start known) Fails → OfInput known (λ a. IsFaultOfDrawableInput a fault)
+first_byte_fault known fault failed = from_start known (λ a. IsFaultOfDrawableInput a fault) (record {
+  input = failed.1.input;
+  may = failed.1.may;
+  is_so = nothing_read failed.1.input fault failed.0 failed.1.is_so;
+})
+  where
+    nothing_read : (a : Ahead) (f : TextFault) → f ≡ Read → Fails a → IsFaultOfDrawableInput a f
+    nothing_read a f is fails = rw (is, fails.0, fails.1) (inl (inl (λ is_pending version. refl)))
 
 -- ---- what is answered of an input
 

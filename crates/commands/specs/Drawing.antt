@@ -23,7 +23,7 @@ use Rattle.claims.specs.declared.claimed.Claimed.{Claimed}
 use Rattle.claims.specs.declared.claimed.Claimed.TheVariants.{No, Yes}
 use Rattle.commands.specs.Answers.{Reply, drawn, refused_orders, refused_size, verified}
 use Rattle.commands.specs.Completing.{FaultOrCompletion, completion_in}
-use Rattle.commands.specs.Inputs.{ClaimOnText, Drawable, alone, claim_on, history_in, with_claim}
+use Rattle.commands.specs.Inputs.{ClaimOnText, Drawable, alone, claim_on, history_in, of_yes, with_claim}
 use Rattle.commands.specs.Told.{IsTold}
 use Rattle.commands.specs.Judging.{FaultOr, IsEvident, IsSound, IsVerdictClaim, Whether, said_by}
 
@@ -132,7 +132,8 @@ abbrev pub DrawsAlone : DrawOptions → PendingText → Option ℕ → Reply →
 DrawsAlone options text (Some calls) answer = DrawsPending options text answer
 DrawsAlone options text None answer = DrawsHistory options (history_in text) answer
 
--- the answer to a history with a claim, or to a text on its own
+-- the answer to a history with a claim, to a text on its own, or to a `YES` alone
 abbrev pub Draws : DrawOptions → Drawable → Reply → Type 0
 Draws options (alone text) answer = DrawsAlone options text text.open_calls answer
 Draws options (with_claim claim) answer = DrawsClaim options claim answer
+Draws options (of_yes operations) answer = DrawsYes options operations answer

@@ -1,2 +1,3 @@
 -- Relations that only contracts of private functions name.
+pub mod Inputs
 pub mod Running

@@ -1,6 +1,8 @@
 -- Inputs that should be one text, or one after another.
-use Rattle.std.specs.Prelude.{◌≡◌, ℕ, List, [], ◌++◌, ◌⊎◌, false, Option, Some, None}
+use Rattle.std.specs.Prelude.{◌≡◌, ◌==◌, ℕ, List, [], ◌∷◌, ◌++◌, ◌⊎◌, Bool, true, false, Option, Some, None}
+use Rattle.history_merge.specs.declared.operation.Operation.{Operation}
 use Rattle.claims.specs.declared.claimed.Claimed.{Claimed}
+use Rattle.claims.specs.declared.claimed.Claimed.TheVariants.{Yes}
 use Rattle.text_lines.specs.declared.fault.TextFault.{TextFault}
 use Rattle.text_lines.specs.Faults.{MemoryOr}
 use Rattle.history_text.specs.declared.schedule.Schedule.{Schedule}
@@ -96,26 +98,29 @@ abbrev pub IsFaultOfClaimInput : Ahead → TextFault → Type 0
 IsFaultOfClaimInput input fault = IsFaultOfTexts HasText text_of (IsTextFault 0) NoRoomForText
     (λ text. IsVerdictTextFault (line_count text)) (λ _. NoRoomForVerdict) input fault
 
--- ---- a history, and a verdict on it if anything follows; or a text that counts pending calls
+-- ---- a history, and a verdict on it if anything follows; or a text that counts pending calls; or a `YES` alone
 
 -- the history of a text whose calls may be pending
 abbrev pub history_in : PendingText → HistoryText
 history_in text = record { version = text.version; initial = text.initial; events = text.events }
 
--- a text on its own, or that of a history with a claim about it
+-- a text on its own, or that of a history with a claim about it, or the operations that a `YES` lists
 pub data Drawable : Type 0 where
   alone : PendingText → Drawable
   with_claim : ClaimOnText → Drawable
+  of_yes : List Operation → Drawable
 
 -- this text, with the claim if there is one
 abbrev pub drawable : PendingText → Option Claimed → Drawable
 drawable text None = alone text
 drawable text (Some claimed) = with_claim (claim_on (history_in text) claimed)
 
--- the input is the text, then that of the verdict if there is one, and nothing more
+-- the input is the text, then that of the verdict if there is one, or the text of the `YES`, and nothing more
 abbrev pub IsDrawableOf : Ahead → Drawable → Type 0
 IsDrawableOf input (alone text) = HasPendingText text × IsWhole (pending_text text) input
 IsDrawableOf input (with_claim claim) = IsClaimOf input claim
+IsDrawableOf input (of_yes operations) =
+    HasVerdictText (Yes operations) × IsWhole (verdict_text (Yes operations)) input
 
 -- the fault of the input after a text, by its number of lines: after one that counts pending calls, that the input
 -- goes on; after a history the fault of a verdict, unless the input ends there
@@ -133,7 +138,26 @@ abbrev pub LacksVerdict : PendingText → List ℕ → Type 0
 LacksVerdict text rest = (text.open_calls ≡ None) × NoRoomForVerdict rest
 
 -- the fault of input that should be such a text, and a verdict on a history if anything follows
-abbrev pub IsFaultOfDrawableInput : Ahead → TextFault → Type 0
-IsFaultOfDrawableInput input fault =
+abbrev pub IsFaultOfDrawnText : Ahead → TextFault → Type 0
+IsFaultOfDrawnText input fault =
     IsFaultOfTexts HasPendingText pending_text
     (IsPendingTextFault false 0) NoRoomForPending IsFaultBehind LacksVerdict input fault
+
+-- the fault of input that should be the text of a verdict
+abbrev pub IsFaultOfVerdictInput : Ahead → TextFault → Type 0
+IsFaultOfVerdictInput input fault =
+    MemoryOr (NoRoomForVerdict input.bytes) (IsVerdictTextFault 0 input.ending input.bytes) fault
+
+-- the first byte is a `Y`, as in a `YES` and in no text of a history
+abbrev pub begins_as_yes : List ℕ → Bool
+begins_as_yes [] = false
+begins_as_yes (first ∷ bytes) = first == 89
+
+-- the fault of input that should be a verdict if it begins as a `YES`, and else a text
+abbrev pub FaultByFirst : Bool → Ahead → TextFault → Type 0
+FaultByFirst true input fault = IsFaultOfVerdictInput input fault
+FaultByFirst false input fault = IsFaultOfDrawnText input fault
+
+-- the fault of input that should be such a text, with a verdict on a history if anything follows, or a `YES` alone
+abbrev pub IsFaultOfDrawableInput : Ahead → TextFault → Type 0
+IsFaultOfDrawableInput input fault = FaultByFirst (begins_as_yes input.bytes) input fault

@@ -14,13 +14,13 @@ ghost use Rattle.commands.specs.Drawing.{DrawsSound, DrawsYes};
 ghost use Rattle.commands.specs.Drawing.{IsOneOrder, picture_in, strict};
 ghost use Rattle.conditions.specs.Conditions.{without_empties};
 ghost use Rattle.verdicts.specs.Selection.{ArePartOf, contents_of};
-ghost use Rattle.commands.specs.Inputs.{IsDrawableOf, IsFaultOfDrawableInput, claim_on, history_in};
+ghost use Rattle.commands.specs.Inputs.{IsDrawableOf, IsFaultOfDrawableInput, claim_on, drawable, history_in};
 ghost use Rattle.commands.specs.Judging.{AnswersFor, AnswersOrNoMemory, IsSound, IsVerdictClaim};
 ghost use Rattle.commands.specs.Outcomes.{answer_of, answer_of_fault, NamesPlaces};
 ghost use Rattle.text_lines.specs.Input.{OfInput};
 
 use crate::complete::{completed, history_of_completion};
-use crate::input::{drawable_of, history_in};
+use crate::input::{DrawableInput, drawable_of, history_in};
 use crate::judging::{decide_under, verify_under};
 use crate::outcome::{Fault, Outcome, Report};
 use crate::told::history_told;
@@ -41,7 +41,24 @@ pub(crate) fn draw<S: TextSource + Drop>(alloc: Global, reader: S, options: Draw
         (λ input. AnswersFor IsDrawableOf IsFaultOfDrawableInput (Draws options) input (answer_of result)) }
     ensures places { NamesPlaces result }
 {
-    let (text, claimed) = drawable_of(alloc, reader)?;
+    let read = drawable_of(alloc, reader)?;
+    match read {
+        DrawableInput::Text(text, claimed) => return draw_read(alloc, text, claimed, options),
+        DrawableInput::Yes(lines) => return draw_yes(alloc, lines, options),
+    }
+}
+
+/// Draws a text, with the claim if there is one.
+fn draw_read(
+    alloc: Global,
+    text: PendingText,
+    claimed: Option<Claimed>,
+    options: DrawOptions,
+) -> Outcome
+    requires lines { HaveValueLines text.version text.initial × HasHistoryText text.events }
+    ensures found { AnswersOrNoMemory (Draws options) (drawable text claimed) (answer_of result) }
+    ensures places { NamesPlaces result }
+{
     match claimed {
         Some(claimed) => draw_claimed(alloc, &text, &claimed, options),
         None => draw_alone(alloc, text, options),

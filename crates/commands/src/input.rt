@@ -1,5 +1,5 @@
 //! The inputs of commands.
-ghost use Rattle.std.specs.Prelude.{◌≡◌, ◌≤◌, ℕ, List, length, vec_len, IfOk, IfErr, IfSome};
+ghost use Rattle.std.specs.Prelude.{◌≡◌, ◌≤◌, ℕ, List, [], false, length, true, vec_len, IfOk, IfErr, IfSome, OnOk};
 ghost use Rattle.event_records.specs.declared.event.Event.{Event};
 ghost use Rattle.event_records.specs.declared.limits.TheConstants.{MAX_EVENTS, MAX_INITIAL};
 ghost use Rattle.history_merge.specs.Clashes.{IsClash};
@@ -11,7 +11,12 @@ ghost use Rattle.history_text.specs.Versions.{HasText, HaveValueLines, HistoryTe
 ghost use Rattle.history_text.specs.Schedules.{IsSetting};
 ghost use Rattle.commands.specs.Inputs.{IsHistoryOf, IsFaultOfHistoryInput, IsScheduleOf, IsFaultOfScheduleInput};
 ghost use Rattle.commands.specs.Inputs.{IsClaimOf, IsFaultOfClaimInput};
-ghost use Rattle.commands.specs.Inputs.{IsDrawableOf, IsFaultOfDrawableInput, drawable, history_in};
+ghost use Rattle.commands.specs.Inputs.{IsDrawableOf, IsFaultOfDrawableInput, IsFaultOfDrawnText};
+ghost use Rattle.commands.specs.Inputs.{drawable, history_in, of_yes};
+ghost use Rattle.commands.specs.Inner.Inputs.{BeginsAsYes, HasLines, drawable_in};
+ghost use Rattle.history_text.specs.Claims.{operation_format};
+ghost use Rattle.history_text.specs.Items.{HaveLines};
+ghost use Rattle.history_text.specs.Reading.{Fails, HasVerdictTextFault, OfLeft, Takes};
 ghost use Rattle.commands.specs.Judging.{IsFaulty, AnswersFor, AnswersOrNoMemory, said_by};
 ghost use Rattle.commands.specs.Answers.{answer_of_history_fault};
 ghost use Rattle.commands.specs.Outcomes.{NamesClash, answer_of_fault};
@@ -20,12 +25,12 @@ ghost use Rattle.text_lines.specs.Input.{OfInput};
 use crate::outcome::{Fault, Incomplete};
 use history_merge::{Clash, History, HistoryBuilder, HistoryFault};
 use history_text::{
-    PendingText, Schedule, TextFault, TextReader, TextSource, Version, at_end, is_at_end,
-    read_history, read_pending, read_schedule, read_verdict,
+    PendingText, Schedule, TextFault, TextReader, TextSource, Version, at_end, peek, read_history,
+    read_pending, read_schedule, read_verdict,
 };
 use packed_events::PackedEvent;
 use std::alloc::{AllocError, Global};
-use verdicts::Claimed;
+use verdicts::{Claimed, Lines};
 
 /// A history builder, and the version of the text that it was read from.
 pub(crate) type Gathered = (Version, HistoryBuilder);
@@ -78,27 +83,90 @@ pub(crate) fn claimed_of<S: TextSource + Drop>(
     Ok((gathered, claimed))
 }
 
+/// The input of `draw`.
+#[derive(Drop)]
+pub(crate) enum DrawableInput {
+    /// A text, and the claim of the verdict after it if there is one.
+    Text(PendingText, Option<Claimed>),
+    /// The lines of a `YES` without a history.
+    Yes(Lines),
+}
+
 /// Reads the text of a history, and the claim of the verdict text after it if anything follows; or a text that counts
-/// its pending calls, after which nothing may follow.
+/// its pending calls, after which nothing may follow; or a `YES` alone.
 pub(crate) fn drawable_of<S: TextSource + Drop>(
     alloc: Global,
     reader: S,
-) -> Result<(PendingText, Option<Claimed>), TextFault>
+) -> Result<DrawableInput, TextFault>
     ensures drawable { IfOk result (λ read. OfInput (S.ahead reader)
-        (λ input. IsDrawableOf input (drawable read.0 read.1))) }
-    ensures lines { IfOk result (λ read. HaveValueLines read.0.version read.0.initial × HasHistoryText read.0.events) }
+        (λ input. IsDrawableOf input (drawable_in read))) }
+    ensures lines { IfOk result HasLines }
     ensures fault { IfErr result (λ fault. OfInput (S.ahead reader) (λ input. IsFaultOfDrawableInput input fault)) }
 {
     let mut texts = TextReader::new(reader);
-    let (text, _is_whole) = read_pending(alloc, &mut texts, false)?;
+    if begins_as_yes(&mut texts)? {
+        let lines = yes_of(alloc, &mut texts)?;
+        return Ok(DrawableInput::Yes(lines));
+    }
+    let (text, claimed) = text_of(alloc, &mut texts)?;
+    Ok(DrawableInput::Text(text, claimed))
+}
+
+/// Returns whether the input begins as a `YES`. Takes no byte.
+fn begins_as_yes<S: TextSource>(texts: &mut TextReader<S>) -> Result<bool, TextFault>
+    requires running { texts.old.is_stopped ≡ false }
+    ensures left { OnOk result (Takes texts.old.left texts.new.left []) }
+    ensures begins { IfOk result (BeginsAsYes texts.new.left) }
+    ensures fault { IfErr result (λ fault. (fault ≡ TextFault.Read) × OfLeft texts.old.left Fails) }
+    ensures lines { texts.new.lines ≡ texts.old.lines }
+    ensures running { OnOk result (texts.new.is_stopped ≡ false) }
+{
+    let next = peek(texts)?;
+    match next {
+        Some(byte) => return Ok(byte == b'Y'),
+        None => return Ok(false),
+    }
+}
+
+/// Reads the `YES` that is all of the input.
+fn yes_of<S: TextSource>(alloc: Global, texts: &mut TextReader<S>) -> Result<Lines, TextFault>
+    requires running { texts.old.is_stopped ≡ false }
+    requires lines { texts.old.lines ≡ 0 }
+    requires begins { BeginsAsYes texts.old.left true }
+    ensures yes { IfOk result (λ lines. OfLeft texts.old.left (λ input. IsDrawableOf input (of_yes lines))) }
+    ensures lines { IfOk result (HaveLines operation_format) }
+    ensures fault { IfErr result (HasVerdictTextFault 0 texts.old.left) }
+{
+    let claimed = read_verdict(alloc, texts)?;
+    match claimed {
+        Claimed::Yes(lines) => return Ok(lines),
+        Claimed::No(_, _) => unreachable!("a `NO` doesn't begin with a `Y`"),
+    }
+}
+
+/// Reads a text from the beginning of the input, and the claim of the verdict text after a history if anything
+/// follows. Nothing may follow a text that counts its pending calls.
+fn text_of<S: TextSource>(
+    alloc: Global,
+    texts: &mut TextReader<S>,
+) -> Result<(PendingText, Option<Claimed>), TextFault>
+    requires running { texts.old.is_stopped ≡ false }
+    requires lines { texts.old.lines ≡ 0 }
+    ensures drawable { IfOk result (λ read. OfLeft texts.old.left
+        (λ input. IsDrawableOf input (drawable read.0 read.1))) }
+    ensures lines { IfOk result (λ read. HaveValueLines read.0.version read.0.initial × HasHistoryText read.0.events) }
+    ensures fault { IfErr result (λ fault. OfLeft texts.old.left (λ input. IsFaultOfDrawnText input fault)) }
+{
+    let (text, _is_whole) = read_pending(alloc, texts, false)?;
     if text.open_calls.is_some() {
-        at_end(&mut texts)?;
+        at_end(texts)?;
         return Ok((text, None));
     }
-    if is_at_end(&mut texts)? {
+    let next = peek(texts)?;
+    if next.is_none() {
         return Ok((text, None));
     }
-    let claimed = read_verdict(alloc, &mut texts)?;
+    let claimed = read_verdict(alloc, texts)?;
     Ok((text, Some(claimed)))
 }
 

@@ -1,11 +1,11 @@
 -- Bytes taken from the buffer of a reader.
 use Rattle.history_text.proofs.Common.{[], Ahead, ap, append_assoc, arith, common_steps, drop, drop-drop, EndOfInput}
-use Rattle.history_text.proofs.Common.{after, Exactly, Gives, Known, Left, MayBeLeft, over, subst, sym}
-use Rattle.history_text.proofs.Common.{HasMore, IsOver, IsOverIf, length, length-append, length-drop}
-use Rattle.history_text.proofs.Common.{length-take-le, List, nat_lt, nat_tests, not, refl, suc}
+use Rattle.history_text.proofs.Common.{Exactly, Gives, Known, Left, over, subst, sym}
+use Rattle.history_text.proofs.Common.{BeginsWith, IsOver, length, length-append, length-drop}
+use Rattle.history_text.proofs.Common.{List, nat_tests, refl, suc}
 use Rattle.history_text.proofs.Common.{take, take-add, take_all, Takes, zero, ℕ, ◌++◌, ◌+◌, ◌-◌, ◌<◌, ◌∙◌}
 use Rattle.history_text.proofs.Common.{◌∷◌, ◌≡◌, ◌≤◌}
-use Rattle.std.proofs.Common.{slice_index_or, true}
+use Rattle.std.proofs.Common.{slice_index_or}
 use Rattle.std.proofs.Math.Seq.{take-append-add}
 use Rattle.std.proofs.lemmas.List.Edits.{take-paste}
 use lib.Seq.{paste}
@@ -63,24 +63,21 @@ read_anew bytes more at filled n old new none gives =
     let empty : filled - at ≡ 0 = omega (arith, none) in
     let all : n - 0 ≡ n = omega arith in rw (empty, all) (takes_read [] (take n more) old new gives)
 
-has_more_behind : (front : List ℕ) (a : Ahead) → 0 < length front → HasMore (after front a)
-has_more_behind [] a some = absurd (omega (arith, some))
-has_more_behind (b ∷ front) a some = (b, front ++ a.bytes, refl)
+-- if a byte of the buffer is left, it is the next one
+pub next_in_buffer : (bytes : List ℕ) (at filled : ℕ) (behind : Known) → at < filled → filled ≤ length bytes
+    → BeginsWith (left_in bytes at filled behind) (slice_index_or bytes at 0 ∷ [])
+next_in_buffer bytes at filled behind some within a may =
+    let splits = part_splits bytes at filled 1 (slice_index_or bytes at 0 ∷ []) (omega (arith, some)) within (byte_at bytes at (omega (arith, some, within))) in (
+      part bytes (at + 1) filled ++ may.0.bytes,
+      ap (λ (x : Ahead). x.bytes) may.2 ∙ ap (λ (front : List ℕ). front ++ may.0.bytes) splits,
+    )
 
--- if a byte of the buffer is left, one is ahead
-pub has_more_in_buffer : (bytes : List ℕ) (at filled : ℕ) (behind : Known) → at < filled → filled ≤ length bytes
-    → (a : Ahead) → MayBeLeft (left_in bytes at filled behind) a → HasMore a
-has_more_in_buffer bytes at filled behind some within a may =
-    subst HasMore (sym may.2) (has_more_behind (part bytes at filled) may.0 (grind (arith, length-take-le, length-drop)))
-
--- the input is over if and only if a read gave no byte
-pub over_if_nothing : (behind : Known) (n : ℕ) (bytes : List ℕ) → n ≤ length bytes
-    → (n ≡ 0 → behind ≡ Exactly (over EndOfInput))
-    → IsOverIf (left_in bytes 0 n behind) (not (nat_lt 0 n))
-over_if_nothing behind zero bytes within ends =
+-- the input is over if a read gave no byte
+pub over_if_nothing : (behind : Known) (n : ℕ) (bytes : List ℕ) → n ≡ 0 → (n ≡ 0 → behind ≡ Exactly (over EndOfInput))
+    → IsOver EndOfInput (left_in bytes 0 n behind)
+over_if_nothing behind zero bytes none ends =
     subst (λ (b : Known). IsOver EndOfInput (record { front = []; behind = b })) (sym (ends refl)) (nothing_left EndOfInput)
-over_if_nothing behind (suc n) bytes within ends =
-    let some : nat_lt 0 (suc n) ≡ true = grind (arith, nat_tests) in rw some (has_more_in_buffer bytes 0 (suc n) behind (omega arith) within)
+over_if_nothing behind (suc n) bytes none ends = absurd (omega (arith, none))
 
 -- moving the bytes that are left to the front, and reading after them, takes nothing
 pub moved_and_read : (bytes more : List ℕ) (at filled n : ℕ) (old new : Known) → at ≤ filled → filled ≤ length bytes

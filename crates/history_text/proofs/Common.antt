@@ -59,7 +59,7 @@ pub use Rattle.history_text.specs.Items.{a_value, FaultAmong, Format, HaveLines,
 pub use Rattle.history_text.specs.Items.{line_at_front, line_of, LineFault, lines_of, NoRoom, NoRoomAmong, read_by}
 pub use Rattle.history_text.specs.Reading.{BeginsWith, Fails, HasFirstFault, HasMore, HasTextFault, Input, IsAll}
 pub use Rattle.history_text.specs.Reading.{IsOver}
-pub use Rattle.history_text.specs.Reading.{IsOverIf, Left, MayBeLeft, OfLeft, Takes}
+pub use Rattle.history_text.specs.Reading.{IsNext, Left, MayBeLeft, OfLeft, Takes}
 pub use Rattle.history_text.specs.Schedules.{draining, HasScheduleText, HasStepLine, IsAnswerInRange}
 pub use Rattle.history_text.specs.Schedules.{IsScheduleTextFault, IsSetting, lines_before_steps, NoRoomForSchedule}
 pub use Rattle.history_text.specs.Schedules.{plain_saying, plain_step, schedule_header, schedule_text, setting_fields}

@@ -1,5 +1,5 @@
 -- The results of a reader's calls, by the input that was left.
-use Rattle.std.specs.Prelude.{◌≡◌, ℕ, Bool, true, false, List, [], ◌∷◌, ◌++◌}
+use Rattle.std.specs.Prelude.{◌≡◌, ℕ, Bool, List, [], ◌∷◌, ◌++◌, Option, Some, None}
 use Rattle.text_lines.specs.declared.fault.TextFault.{TextFault}
 use Rattle.text_lines.specs.declared.fault.TextFault.TheVariants.{Read, Trailing}
 use Rattle.text_lines.specs.Faults.{MemoryOr}
@@ -80,7 +80,7 @@ IsEndFault a _ = ⊥
 abbrev pub HasEndFault : Left → TextFault → Type 0
 HasEndFault left fault = OfLeft left (λ a. IsEndFault a fault)
 
--- whether the input is over: it is, without a failure; or there is a byte
-abbrev pub IsOverIf : Left → Bool → Type 0
-IsOverIf left true = IsOver EndOfInput left
-IsOverIf left false = (a : Ahead) → MayBeLeft left a → HasMore a
+-- the next byte of the input is this one; or there is none, and the input is over without a failure
+abbrev pub IsNext : Left → Option ℕ → Type 0
+IsNext left None = IsOver EndOfInput left
+IsNext left (Some b) = BeginsWith left (b ∷ [])

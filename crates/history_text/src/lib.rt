@@ -32,7 +32,7 @@ pub use laws::{
 };
 pub use pending_text::{EventList, PendingText, Values};
 pub use reader::{
-    TextReader, at_end, is_at_end, read_history, read_pending, read_schedule, read_verdict,
+    TextReader, at_end, peek, read_history, read_pending, read_schedule, read_verdict,
 };
 pub use schedule::{MOST_DRAINED, Schedule, Steps};
 pub use text_lines::{

@@ -1,6 +1,6 @@
 //! Reading texts line by line.
 ghost use Rattle.std.specs.Prelude.{◌≡◌, ◌+◌, ◌<◌, ◌^◌, ◌≤◌, true, false, IfOk, IfErr, OnErr, OnOk, MatchResult};
-ghost use Rattle.std.specs.Prelude.{IfNone, IfSome, option_to_list, is_err, not, Err, Ok, length, List, []};
+ghost use Rattle.std.specs.Prelude.{IfNone, IfSome, option_to_list, is_err, Err, Ok, length, List, []};
 ghost use Rattle.event_records.specs.declared.limits.TheConstants.{MAX_INITIAL};
 ghost use Rattle.claims.specs.declared.claimed.Claimed.{Claimed};
 ghost use Rattle.history_text.specs.declared.schedule.Schedule.{Schedule};
@@ -13,7 +13,7 @@ ghost use Rattle.history_text.specs.Schedules.{schedule_text, HasScheduleText};
 ghost use Rattle.history_text.specs.Verdicts.{verdict_text};
 ghost use Rattle.history_text.specs.Claims.{claim_length, HasVerdictText, first_line, FirstLineFault};
 ghost use Rattle.history_text.specs.Reading.{HasTextFault, HasScheduleTextFault, HasVerdictTextFault, HasEndFault};
-ghost use Rattle.history_text.specs.Reading.{IsOver, IsOverIf, Takes, BeginsWith, Fails, IsAll, OfLeft};
+ghost use Rattle.history_text.specs.Reading.{IsNext, IsOver, Takes, BeginsWith, Fails, IsAll, OfLeft};
 ghost use Rattle.history_text.specs.Inner.Taking.{TakesLine, FaultAtFront, BrokenLineFault, NoLineFault};
 ghost use Rattle.history_text.specs.Inner.Taking.{TakesItem, TakesItems, HasItemsFault, HasFaultAmong, IsOfInput};
 ghost use Rattle.history_text.specs.Inner.Pending.{NoRoomForValues, ValuesFault};
@@ -111,21 +111,23 @@ impl<R: TextSource> TextReader<R> {
         Ok(Some(self.buffer[0]))
     }
 
-    /// Returns whether there is a next byte, which isn't taken.
-    #[tactic(auto, using(crate::proofs::Buffers::has_more_in_buffer))]
-    fn has_byte(&mut self) -> Result<bool, ReadFailed>
+    /// Returns the next byte, which isn't taken, or none at the end of the input.
+    fn peek_byte(&mut self) -> Result<Option<u8>, ReadFailed>
         ensures left { Takes self.old.left self.new.left [] }
-        ensures over { IfOk result (λ more. IsOverIf self.new.left (not more)) }
+        ensures next { IfOk result (IsNext self.new.left) }
         ensures failed { OnErr result (IsOver Failure self.new.left) }
         ensures lines { self.new.lines ≡ self.old.lines }
     {
         if self.at < self.filled {
-            return Ok(true);
+            return Ok(Some(self.buffer[self.at]));
         }
         self.at = 0;
         self.filled = 0;
         self.filled = read_at(&mut self.source, &mut self.end, &mut self.buffer, 0)?;
-        Ok(self.filled > 0)
+        if self.filled == 0 {
+            return Ok(None);
+        }
+        Ok(Some(self.buffer[0]))
     }
 
     /// Returns the next line, or none at the end of the input. A line that is too long gives the fault `too_long`.
@@ -484,18 +486,18 @@ pub fn at_end<R: TextSource>(reader: &mut TextReader<R>) -> Result<(), TextFault
     result
 }
 
-/// Returns whether the input is over. Takes no byte, so later reads see the same input. `Read` comes if the source
-/// fails, which is asked only once no byte from it is left.
-pub fn is_at_end<R: TextSource>(reader: &mut TextReader<R>) -> Result<bool, TextFault>
+/// Returns the next byte, or none at the end of the input. Takes no byte, so later reads see the same input. `Read`
+/// comes if the source fails, which is asked only once no byte from it is left.
+pub fn peek<R: TextSource>(reader: &mut TextReader<R>) -> Result<Option<u8>, TextFault>
     requires { reader.old.is_stopped ≡ false }
     ensures left { IfOk result (λ _. Takes reader.old.left reader.new.left []) }
-    ensures over { IfOk result (λ is_over. IsOverIf reader.new.left is_over) }
+    ensures next { IfOk result (IsNext reader.new.left) }
     ensures fault { IfErr result (λ fault. (fault ≡ TextFault.Read) × OfLeft reader.old.left Fails) }
     ensures lines { reader.new.lines ≡ reader.old.lines }
     ensures stopped { reader.new.is_stopped ≡ is_err result }
 {
-    let result = match reader.has_byte() {
-        Ok(more) => Ok(!more),
+    let result = match reader.peek_byte() {
+        Ok(next) => Ok(next),
         Err(ReadFailed) => Err(TextFault::Read),
     };
     reader.is_stopped = result.is_err();

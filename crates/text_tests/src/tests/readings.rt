@@ -3,8 +3,7 @@ ghost use Rattle.std.specs.Prelude.{◌<◌};
 
 use super::outcomes::Counted;
 use history_text::{
-    MemorySource, Schedule, TextFault, TextReader, is_at_end, read_history, read_schedule,
-    read_verdict,
+    MemorySource, Schedule, TextFault, TextReader, peek, read_history, read_schedule, read_verdict,
 };
 use recorder_core::{Answer, Step};
 use std::alloc::Global;
@@ -18,7 +17,7 @@ const HISTORY: &[u8] = b"fifo-history 1\n0 0 call-enq 7\n1 0 ret-enq\nend 2\n";
 fn history_reads(
     alloc: Global,
     source: MemorySource<'_>,
-) -> Result<(usize, usize, Result<bool, TextFault>, usize), Fail> {
+) -> Result<(usize, usize, Result<Option<u8>, TextFault>, usize), Fail> {
     let reads = AtomicUsize::new(0);
     let mut reader = TextReader::new(Counted {
         source,
@@ -26,7 +25,7 @@ fn history_reads(
     });
     let (_, builder) = read_history(alloc, &mut reader)?;
     let before = reads.load(Ordering::SeqCst);
-    let end = is_at_end(&mut reader);
+    let end = peek(&mut reader);
     let events = builder.finish()?.events().len();
     Ok((events, before, end, reads.load(Ordering::SeqCst)))
 }
@@ -35,8 +34,8 @@ fn history_reads(
 fn the_end_is_looked_for_where_nothing_is_left(rt: HostRuntime) -> Result<(), Fail> {
     let bytes = HISTORY.len();
     for (source, reads, end) in [
-        (MemorySource::new(HISTORY).in_pieces(1), bytes, Ok(true)),
-        (MemorySource::new(HISTORY), 1, Ok(true)),
+        (MemorySource::new(HISTORY).in_pieces(1), bytes, Ok(None)),
+        (MemorySource::new(HISTORY), 1, Ok(None)),
         (MemorySource::failing(HISTORY), 1, Err(TextFault::Read)),
     ] {
         let found = history_reads(rt.alloc(), source)?;

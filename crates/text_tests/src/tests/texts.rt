@@ -8,8 +8,8 @@ use super::outcomes::{Outcome, assert_failures, known};
 use event_records::{Event, What};
 use history_merge::{History, OpId};
 use history_text::{
-    MemorySource, TextFault, TextReader, Version, Watched, WriteFault, at_end, is_at_end,
-    read_history, write_history, write_verdict,
+    MemorySource, TextFault, TextReader, Version, Watched, WriteFault, at_end, peek, read_history,
+    write_history, write_verdict,
 };
 use std::alloc::{AllocError, Global};
 use std::test::Fail;
@@ -121,10 +121,14 @@ fn two_histories(
     source: MemorySource<'_>,
 ) -> Result<([bool; 3], usize, Option<TextFault>), Fail> {
     let mut reader = TextReader::new(source);
-    let before = is_at_end(&mut reader)?;
+    let before = peek(&mut reader)?.is_none();
     let (_, builder) = read_history(alloc, &mut reader)?;
     let events = builder.finish()?.events().len();
-    let ends = [before, is_at_end(&mut reader)?, is_at_end(&mut reader)?];
+    let ends = [
+        before,
+        peek(&mut reader)?.is_none(),
+        peek(&mut reader)?.is_none(),
+    ];
     let second = known(read_history(alloc, &mut reader))?;
     Ok((ends, events, second.err()))
 }

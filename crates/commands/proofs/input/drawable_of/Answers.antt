@@ -1,64 +1,29 @@
-use Rattle.commands.proofs.Common.{alone, ap, arith, carries, claim_on, IsClaimOf, IsDrawableOf, List, refl, sym, verdict_text, ℕ, ◌++◌, ◌∙◌}
-use Rattle.commands.proofs.Inputs.{drawable_end_fault, drawable_read_fault, drawable_text_fault, drawable_verdict_fault, over_input}
-use Rattle.commands.proofs.Inputs.{plain_text, read_whole, whole_input}
-use Rattle.commands.specs.Inputs.{history_in}
-use Rattle.history_text.proofs.Consuming.{taken_through, Takes-append}
-use Rattle.history_text.specs.Pending.{pending_text}
+use Rattle.commands.proofs.Common.{carries, IsDrawableOf}
+use Rattle.commands.proofs.Inputs.{fault_by_first, first_byte_fault, looked_at}
+use Rattle.commands.specs.Inputs.{drawable, of_yes}
+use Rattle.std.proofs.Common.{false, true}
 use Rattle.commands.proofs.input.drawable_of.Goals as goal
 
-pub returns-in_err-text-clause-fault : goal.returns-in_err-text-clause-fault
-returns-in_err-text-clause-fault g c = rw (carries c.from_residual.result _ c.from_residual.ensures.1)
-    (drawable_text_fault (g.S.TextSource.ahead c.args.reader) _ (rw c.new-texts.ensures at c.in_err-text.ensures.fault))
+pub returns-in_err-begins_as_yes-clause-fault : goal.returns-in_err-begins_as_yes-clause-fault
+returns-in_err-begins_as_yes-clause-fault g c = rw (carries c.from_residual.result _ c.from_residual.ensures.1)
+    (first_byte_fault (g.S.TextSource.ahead c.args.reader) _ (rw c.new-texts.ensures at c.in_err-begins_as_yes.ensures.fault))
 
-pub returns-in_err-at_end-clause-fault : goal.returns-in_err-at_end-clause-fault
-returns-in_err-at_end-clause-fault g c =
-    let whole = read_whole _ _ _ _ _ (rw c.new-texts.ensures at c.in_ok-text.ensures.text) in
-    rw (carries c.from_residual-in_err-at_end.result _ c.from_residual-in_err-at_end.ensures.1)
-    (drawable_end_fault (g.S.TextSource.ahead c.args.reader) _ _ _ (sym c.is_some.ensures ∙ c.if-is_some.true) whole.1 whole.2 c.in_err-at_end.ensures.fault)
-
-pub returns-in_err-claimed-clause-fault : goal.returns-in_err-claimed-clause-fault
-returns-in_err-claimed-clause-fault g c =
-    let more = rw c.if-branch.false at c.in_ok-is_at_end.ensures.over in
-    let read = rw c.new-texts.ensures at c.in_ok-text.ensures.text in
-    let whole = read_whole _ _ _ _ _ read in
-    let counted = rw c.new-texts.ensures at (c.in_ok-text.ensures.count whole.0) in
-    rw (carries c.from_residual-in_err-claimed.result _ c.from_residual-in_err-claimed.ensures.1)
-    (drawable_verdict_fault (g.S.TextSource.ahead c.args.reader) _ _ _ _ _ (sym c.is_some.ensures ∙ c.if-is_some.false) whole.1 whole.2 c.in_ok-is_at_end.ensures.left more
-    (omega (arith, counted, c.in_ok-is_at_end.ensures.lines)) c.in_err-claimed.ensures.fault)
-
-pub returns-in_err-is_at_end-clause-fault : goal.returns-in_err-is_at_end-clause-fault
-returns-in_err-is_at_end-clause-fault g c =
-    let whole = read_whole _ _ _ _ _ (rw c.new-texts.ensures at c.in_ok-text.ensures.text) in
-    rw (carries c.from_residual-in_err-is_at_end.result _ c.from_residual-in_err-is_at_end.ensures.1)
-    (drawable_read_fault (g.S.TextSource.ahead c.args.reader) _ _ _ (sym c.is_some.ensures ∙ c.if-is_some.false) whole.1 whole.2
-    c.in_err-is_at_end.ensures.fault)
-
-pub returns-then-is_some-clause-drawable : goal.returns-then-is_some-clause-drawable
-returns-then-is_some-clause-drawable g c =
-    let text = c.in_ok-text.text in
-    let whole = read_whole _ _ _ _ _ (rw c.new-texts.ensures at c.in_ok-text.ensures.text) in
-    let end = c.in_ok-at_end.ensures.left in
-    whole_input (g.S.TextSource.ahead c.args.reader) _ _ (pending_text text) (λ input. IsDrawableOf input (alone text)) whole.2 end.0 end.1
-    (whole.1, record { bytes = refl; ending = refl })
+pub returns-in_err-lines-clause-fault : goal.returns-in_err-lines-clause-fault
+returns-in_err-lines-clause-fault g c = rw (carries c.from_residual-in_err-lines.result _ c.from_residual-in_err-lines.ensures.1)
+    (fault_by_first (g.S.TextSource.ahead c.args.reader) _ true _ (rw c.new-texts.ensures at c.in_ok-begins_as_yes.ensures.left)
+    (rw c.if-branch.true at c.in_ok-begins_as_yes.ensures.begins) c.in_err-lines.ensures.fault)
 
 pub returns-then-branch-clause-drawable : goal.returns-then-branch-clause-drawable
 returns-then-branch-clause-drawable g c =
-    let text = c.in_ok-text.text in
-    let whole = read_whole _ _ _ _ _ (rw c.new-texts.ensures at c.in_ok-text.ensures.text) in
-    whole_input (g.S.TextSource.ahead c.args.reader) _ _ (pending_text text) (λ input. IsDrawableOf input (alone text)) whole.2
-    c.in_ok-is_at_end.ensures.left (rw c.if-branch.true at c.in_ok-is_at_end.ensures.over) (whole.1, record { bytes = refl; ending = refl })
+    looked_at (g.S.TextSource.ahead c.args.reader) _ (λ input. IsDrawableOf input (of_yes c.in_ok-lines.lines))
+    (rw c.new-texts.ensures at c.in_ok-begins_as_yes.ensures.left) c.in_ok-lines.ensures.yes
+
+pub returns-in_err-text-clause-fault : goal.returns-in_err-text-clause-fault
+returns-in_err-text-clause-fault g c = rw (carries c.from_residual-in_err-text.result _ c.from_residual-in_err-text.ensures.1)
+    (fault_by_first (g.S.TextSource.ahead c.args.reader) _ false _ (rw c.new-texts.ensures at c.in_ok-begins_as_yes.ensures.left)
+    (rw c.if-branch.false at c.in_ok-begins_as_yes.ensures.begins) c.in_err-text.ensures.fault)
 
 pub returns-clause-drawable : goal.returns-clause-drawable
 returns-clause-drawable g c =
-    let text = c.in_ok-text.text in
-    let whole = read_whole _ _ _ _ _ (rw c.new-texts.ensures at c.in_ok-text.ensures.text) in
-    let claimed = c.in_ok-claimed.ensures.claim in
-    let plain = plain_text text (sym c.is_some.ensures ∙ c.if-is_some.false) whole.1 in
-    over_input (g.S.TextSource.ahead c.args.reader) _ (pending_text text ++ verdict_text c.in_ok-claimed.claimed)
-    (λ input. IsClaimOf input (claim_on (history_in text) c.in_ok-claimed.claimed))
-    (Takes-append _ _ _ _ _ (taken_through _ _ _ _ whole.2 c.in_ok-is_at_end.ensures.left) claimed.1) claimed.2
-    (record {
-      history = plain.0;
-      verdict = claimed.0;
-      whole = record { bytes = ap (λ (t : List ℕ). t ++ verdict_text c.in_ok-claimed.claimed) plain.1; ending = refl };
-    })
+    looked_at (g.S.TextSource.ahead c.args.reader) _ (λ input. IsDrawableOf input (drawable c.in_ok-text.text c.in_ok-text.claimed))
+    (rw c.new-texts.ensures at c.in_ok-begins_as_yes.ensures.left) c.in_ok-text.ensures.drawable
