@@ -55,7 +55,7 @@ pub record IsShownRun (condition : Condition) (count : ℕ) (lists : List (List 
   pub complete : IsCompleteFrom (first_values count) events
   pub answered : IsOfVerdictUnder condition (run_history count events) (shown (said_in (run_version count) (run_history count events))) answer
 
--- the plan that the settings ask for: without producers the seed's, else one of so many producers, all workers if they are no more
+-- the plan of the settings: that of the seed if no producers are asked for, else one of roles, with at most all workers as producers
 abbrev pub IsPlanned : Settings → List (List Kind) → Type 0
 IsPlanned settings plan = Whether (settings.producers ≡ 0)
     (IsSeeded settings.seed settings.threads settings.operations settings.percent plan)

@@ -20,7 +20,8 @@ fn is_allowed(fault: RunFault) -> bool {
     match fault {
         RunFault::Memory => true,
         RunFault::CloseLost(thread) | RunFault::Stalled(thread) => thread < 2,
-        RunFault::Limit | RunFault::Uncertified(_) | RunFault::Preload(_) => false,
+        RunFault::Limit | RunFault::Roles | RunFault::Uncertified(_) | RunFault::Preload(_) =>
+            false,
     }
 }
 
