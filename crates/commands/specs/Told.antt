@@ -1,5 +1,6 @@
 -- The history that the lines of a `YES` tell of, as `draw` shows it.
-use Rattle.std.specs.Prelude.{◌≡◌, ℕ, Bool, false, not, List, [], ◌∷◌, filter, filter_map, flat_map, nat_eq, Option, Some, None}
+use Rattle.std.specs.Prelude.{◌≡◌, ℕ, Bool, false, not, List, [], ◌∷◌, filter, filter_map, flat_map, nat_eq, Option}
+use Rattle.std.specs.Prelude.{Some, None}
 use Rattle.std.specs.Prelude.{IsPermutation}
 use Rattle.std.specs.List.{list_any}
 use Rattle.event_records.specs.declared.event.Event.{Event}
@@ -27,7 +28,8 @@ dequeued_value DequeueEmpty = None
 abbrev pub is_enqueued : List Operation → ℕ → Bool
 is_enqueued operations v = list_any (λ o. enqueues v o.kind) operations
 
--- the values that the operations dequeue, in their order, and none of them enqueues: those that the queue held at first
+-- the values that the operations dequeue, in their order, and none of them enqueues: those that the queue held at
+-- first
 abbrev pub values_before : List Operation → List ℕ
 values_before operations =
     filter (λ v. not (is_enqueued operations v)) (filter_map (λ o. dequeued_value o.kind) operations)

@@ -297,7 +297,7 @@ fn run_held<R: Threads + Wait + Sync>(
 /// history is linearizable from these values, whatever the schedule of the threads.
 ///
 /// A ring has room for a fixed number of values, and with two locks for all values of the run. In the linearization an
-/// enqueue on these fails if so many values are in the queue, and only then.
+/// enqueue on these fails if the ring is full, and only then.
 ///
 /// The step that decides an answer also notes it. The notes exist only in proofs; with a lock or in a ring, each costs
 /// four loads of the ticket word. Faults, waiting and memory are those of [`run_from`](crate::run_from), with the
