@@ -527,7 +527,7 @@ pub none_next : (left : Left) (next : Option ℕ) → is_some next ≡ false →
 none_next left None none comes = comes
 none_next left (Some b) none comes = absurd (cc)
 
--- the next byte says whether the input begins as a `YES`
+-- the next byte says whether the input begins as `YES` does
 pub begins_with_byte : (left : Left) (b : ℕ) → IsNext left (Some b) → BeginsAsYes left (b == 89)
 begins_with_byte left b comes a may = ap begins_as_yes (comes a may).1
 
