@@ -19,11 +19,13 @@ fn sentences(alloc: Global) -> Result<String, AllocError> {
         reads: Reads::History,
         front: b"fifo-history 1\n0 0 ret\nend 1\n",
         is_whole: true,
+        back: b"",
     };
     let not_kept = Given {
         reads: Reads::History,
         front: b"fifo-history 1\n",
         is_whole: false,
+        back: b"",
     };
     let event = Event {
         ticket: 70_001,
@@ -70,5 +72,6 @@ fn terminals_get_hints_and_bytes_are_quoted(rt: HostRuntime) -> Result<(), Fail>
 fn the_front_of_an_input_is_kept(rt: HostRuntime) {
     let mut source = FrontKept::new(rt.alloc(), MemorySource::new(b"abcde").in_pieces(2));
     let read = source.read(&mut [0; 3]);
-    assert!(rt; read == Ok(2) && source.is_whole() && source.front() == b"ab".as_slice());
+    let is_front = source.is_whole() && source.front() == b"ab".as_slice();
+    assert!(rt; read == Ok(2) && is_front && source.back().is_empty());
 }
