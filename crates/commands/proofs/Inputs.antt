@@ -18,7 +18,7 @@ use Rattle.history_text.proofs.Consuming.{before_end, some_left, taken_through}
 use Rattle.history_merge.specs.declared.operation.Operation.{Operation}
 use Rattle.claims.specs.declared.claimed.ClaimLine.{ClaimLine}
 use Rattle.claims.specs.declared.claimed.ViolationKind.{ViolationKind}
-use Rattle.commands.proofs.Common.{line, One, Two, Version, ◌∷◌}
+use Rattle.commands.proofs.Common.{line, One, Two, Version}
 use Rattle.std.proofs.Common.{◌==◌}
 use Rattle.text_lines.proofs.MemoryOrNot.{follows, is_memory, known_fault}
 use Rattle.text_lines.specs.declared.fault.TextFault.TheVariants.{Read}
