@@ -13,10 +13,10 @@ use Rattle.command_words.specs.declared.options.DrawOptions.{DrawOptions}
 use Rattle.commands.specs.Completing.{completion_in, IsCompletable}
 use Rattle.command_words.specs.declared.options.PictureForm.{PictureForm}
 use Rattle.commands.specs.Drawing.{Draws, DrawsAlone, DrawsClaim, DrawsDecided, DrawsHistory, DrawsPart, DrawsSound}
-use Rattle.commands.specs.Drawing.{DrawsTold, DrawsYes, IsDrawnWithout, IsOneOrder, strict}
+use Rattle.commands.specs.Drawing.{DrawsHistoryOf, DrawsYes, IsDrawnWithout, IsOneOrder, strict}
 use Rattle.commands.specs.Answers.{refused_orders, refused_size}
-use Rattle.commands.specs.Told.{IsTold}
-use Rattle.commands.proofs.Telling.{few_before, one_told}
+use Rattle.commands.specs.Operations.{IsHistoryOfOperations}
+use Rattle.commands.proofs.OfOperations.{few_before, one_of_operations}
 use Rattle.claims.specs.declared.claimed.Claimed.TheVariants.{Yes}
 use Rattle.drawing.specs.declared.columns.TheConstants.{MOST_DRAWN}
 use Rattle.history_merge.specs.declared.operation.Operation.{Operation}
@@ -95,11 +95,11 @@ one_alone options text None a b has =
     one_part options.condition.is_weakly_empty (history_in text) (DrawsDecided options None) a b few complete
     (λ t few_in sound. one_decided options None t a b few_in sound))
 
--- few lines of one linearization are drawn with the history that they tell of
+-- the few lines of one linearization are drawn with the history of their operations
 pub drawn_yes : (options : DrawOptions) (lines : List Operation) (answer : Reply) → options.condition.is_local ≡ false
-    → length lines ≤ MOST_DRAWN → DrawsTold options lines answer → DrawsYes options lines answer
-drawn_yes options lines answer together few told =
-    inl (subst (λ (b : Bool). IsOneOrder b (Yes lines)) (sym together) tt, inl (few, told))
+    → length lines ≤ MOST_DRAWN → DrawsHistoryOf options lines answer → DrawsYes options lines answer
+drawn_yes options lines answer together few drawn =
+    inl (subst (λ (b : Bool). IsOneOrder b (Yes lines)) (sym together) tt, inl (few, drawn))
 
 -- the lines of a `YES` have one picture
 one_yes : (options : DrawOptions) (lines : List Operation) (a b : Reply) → DrawsYes options lines a → DrawsYes options lines b → a ≡ b
@@ -109,20 +109,20 @@ one_yes options lines a b x y = by_order x y
     drawn history answer = DrawsPart options.condition.is_weakly_empty (said_in Two history)
         (λ text r. DrawsSound options None (claim_on text (Yes lines)) r) answer
 
-    by_told : length lines ≤ MOST_DRAWN → DrawsTold options lines a → DrawsTold options lines b → a ≡ b
-    by_told few (inl p) (inl q) =
+    by_history : length lines ≤ MOST_DRAWN → DrawsHistoryOf options lines a → DrawsHistoryOf options lines b → a ≡ b
+    by_history few (inl p) (inl q) =
         let few_values = few_before lines in
         let is = ap length q.1.initial in
         one_part options.condition.is_weakly_empty (said_in Two q.0) (λ text r. DrawsSound options None (claim_on text (Yes lines)) r) a b
         (omega arith) q.1.complete (λ t few_in sound. one_drawn options None (claim_on t (Yes lines)) a b)
-        (subst (λ h. drawn h a) (one_told lines p.0 q.0 p.1 q.1) p.2) q.2
-    by_told few (inl p) (inr q) = absurd (q.0 p.0 p.1)
-    by_told few (inr p) (inl q) = absurd (p.0 q.0 q.1)
-    by_told few (inr p) (inr q) = p.1 ∙ sym q.1
+        (subst (λ h. drawn h a) (one_of_operations lines p.0 q.0 p.1 q.1) p.2) q.2
+    by_history few (inl p) (inr q) = absurd (q.0 p.0 p.1)
+    by_history few (inr p) (inl q) = absurd (p.0 q.0 q.1)
+    by_history few (inr p) (inr q) = p.1 ∙ sym q.1
 
-    by_few : (length lines ≤ MOST_DRAWN × DrawsTold options lines a) ⊎ ((¬ (length lines ≤ MOST_DRAWN)) × (a ≡ refused_size))
-        → (length lines ≤ MOST_DRAWN × DrawsTold options lines b) ⊎ ((¬ (length lines ≤ MOST_DRAWN)) × (b ≡ refused_size)) → a ≡ b
-    by_few (inl p) (inl q) = by_told p.0 p.1 q.1
+    by_few : (length lines ≤ MOST_DRAWN × DrawsHistoryOf options lines a) ⊎ ((¬ (length lines ≤ MOST_DRAWN)) × (a ≡ refused_size))
+        → (length lines ≤ MOST_DRAWN × DrawsHistoryOf options lines b) ⊎ ((¬ (length lines ≤ MOST_DRAWN)) × (b ≡ refused_size)) → a ≡ b
+    by_few (inl p) (inl q) = by_history p.0 p.1 q.1
     by_few (inl p) (inr q) = absurd (q.0 p.0)
     by_few (inr p) (inl q) = absurd (p.0 q.0)
     by_few (inr p) (inr q) = p.1 ∙ sym q.1

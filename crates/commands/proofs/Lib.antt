@@ -6,7 +6,7 @@
 -- that is true. Out of memory aside an input has one answer. So a text and its conversion are answered alike, `check` finds the
 -- verdict that `shrink` wrote. An honest schedule that is done is answered by `YES`.
 -- Shrinking: what is shown of a part of a history is minimal for its condition.
--- Telling: the lines of a `YES` tell of one history at most.
+-- OfOperations: at most one history has the operations of a `YES`.
 -- Drawings: an input is drawn in one way, and a history on its own as if its verdict followed it.
 -- Planned: a proved queue runs only plans that it can run.
 mod Common
@@ -15,6 +15,6 @@ pub mod Conditions
 pub mod OneAnswer
 pub mod Shrinking
 pub mod Completions
-pub mod Telling
+pub mod OfOperations
 pub mod Drawings
 pub mod Planned

@@ -24,7 +24,7 @@ use Rattle.claims.specs.declared.claimed.Claimed.TheVariants.{No, Yes}
 use Rattle.commands.specs.Answers.{Reply, drawn, refused_orders, refused_size, verified}
 use Rattle.commands.specs.Completing.{FaultOrCompletion, completion_in}
 use Rattle.commands.specs.Inputs.{ClaimOnText, Drawable, alone, claim_on, history_in, of_yes, with_claim}
-use Rattle.commands.specs.Told.{IsTold}
+use Rattle.commands.specs.Operations.{IsHistoryOfOperations}
 use Rattle.commands.specs.Judging.{FaultOr, IsEvident, IsSound, IsVerdictClaim, Whether, said_by}
 
 -- ---- sizes
@@ -93,18 +93,18 @@ pub record DrawsDecided (options : DrawOptions) (added : Option ℕ) (text : His
 
 -- ---- of the lines of a `YES` alone
 
--- the picture with these lines as the claim, of the history that they tell of; or there is no such history
-abbrev pub DrawsTold : DrawOptions → List Operation → Reply → Type 0
-DrawsTold options lines answer =
-    ((history : HistoryView) × IsTold lines history
+-- the picture of the history of these operations, with their lines as the claim; or there is no such history
+abbrev pub DrawsHistoryOf : DrawOptions → List Operation → Reply → Type 0
+DrawsHistoryOf options lines answer =
+    ((history : HistoryView) × IsHistoryOfOperations lines history
     × DrawsPart options.condition.is_weakly_empty (said_in Two history)
     (λ text a. DrawsSound options None (claim_on text (Yes lines)) a) answer)
-    ⊎ (((history : HistoryView) → ¬ IsTold lines history) × (answer ≡ verified false))
+    ⊎ (((history : HistoryView) → ¬ IsHistoryOfOperations lines history) × (answer ≡ verified false))
 
 -- the same if the lines are one linearization and are few
 abbrev pub DrawsYes : DrawOptions → List Operation → Reply → Type 0
 DrawsYes options lines answer = Whether (IsOneOrder options.condition.is_local (Yes lines))
-    (Whether (length lines ≤ MOST_DRAWN) (DrawsTold options lines answer) (answer ≡ refused_size))
+    (Whether (length lines ≤ MOST_DRAWN) (DrawsHistoryOf options lines answer) (answer ≡ refused_size))
     (answer ≡ refused_orders)
 
 -- ---- `draw`

@@ -3,7 +3,7 @@ pub mod Answers
 pub mod Conditions
 pub mod Judging
 pub mod Completing
-pub mod Told
+pub mod Operations
 pub mod Drawing
 pub mod Outcomes
 pub mod Running

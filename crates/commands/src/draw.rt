@@ -9,8 +9,7 @@ ghost use Rattle.history_text.specs.Histories.{HasHistoryText};
 ghost use Rattle.history_text.specs.Versions.{HaveValueLines, said_in};
 ghost use Rattle.commands.specs.Answers.{refused_orders, refused_size};
 ghost use Rattle.commands.specs.Conditions.{IsTrueUnder};
-ghost use Rattle.commands.specs.Drawing.{DrawsYes, Draws, DrawsAlone, DrawsClaim, DrawsDecided, DrawsPart};
-ghost use Rattle.commands.specs.Drawing.{DrawsPending};
+ghost use Rattle.commands.specs.Drawing.{Draws, DrawsAlone, DrawsClaim, DrawsDecided, DrawsPart, DrawsPending};
 ghost use Rattle.commands.specs.Drawing.{DrawsSound, DrawsYes};
 ghost use Rattle.commands.specs.Drawing.{IsOneOrder, picture_in, strict};
 ghost use Rattle.conditions.specs.Conditions.{without_empties};
@@ -23,8 +22,8 @@ ghost use Rattle.text_lines.specs.Input.{OfInput};
 use crate::complete::{completed, history_of_completion};
 use crate::input::{DrawableInput, drawable_of, history_in};
 use crate::judging::{decide_under, verify_under};
+use crate::operations::history_of_operations;
 use crate::outcome::{Fault, Outcome, Report};
-use crate::told::history_told;
 use command_words::{Condition, DrawOptions, PictureForm};
 use completions::next_ticket;
 use conditions::without_empties;
@@ -84,7 +83,7 @@ fn draw_claimed(
     draw_claim(alloc, &history, claimed, options)
 }
 
-/// Draws the history that the lines of a `YES` tell of, with these lines as its claim.
+/// Draws the history of the operations of a `YES`, with its lines as the claim.
 fn draw_yes(alloc: Global, lines: Lines, options: DrawOptions) -> Outcome
     ensures found { AnswersOrNoMemory (DrawsYes options) lines (answer_of result) }
     ensures places { NamesPlaces result }
@@ -95,7 +94,7 @@ fn draw_yes(alloc: Global, lines: Lines, options: DrawOptions) -> Outcome
     if lines.len() > MOST_DRAWN {
         return Err(Fault::Size);
     }
-    let whole = match history_told(alloc, lines.as_slice())? {
+    let whole = match history_of_operations(alloc, lines.as_slice())? {
         Some(whole) => whole,
         None => return Ok(Report::Verified(false)),
     };

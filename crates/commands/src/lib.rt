@@ -10,6 +10,7 @@ mod histories;
 mod input;
 mod judging;
 mod laws;
+mod operations;
 mod outcome;
 mod pipes;
 mod print;
@@ -20,7 +21,6 @@ mod sim;
 mod stderr;
 mod stress;
 mod texts;
-mod told;
 
 pub use args::{StartFault, args_of, print_start_fault};
 pub use command::{Exit, run_command, run_over};

@@ -1,4 +1,4 @@
--- The history that the lines of a `YES` tell of, as `draw` shows it.
+-- The history of the operations of a `YES`, as `draw` shows it.
 use Rattle.std.specs.Prelude.{◌≡◌, ℕ, Bool, false, not, List, [], ◌∷◌, filter, filter_map, flat_map, nat_eq, Option}
 use Rattle.std.specs.Prelude.{Some, None}
 use Rattle.std.specs.Prelude.{IsPermutation}
@@ -35,12 +35,12 @@ values_before operations =
     filter (λ v. not (is_enqueued operations v)) (filter_map (λ o. dequeued_value o.kind) operations)
 
 -- the call and the return of each operation
-abbrev pub events_told : List Operation → List Event
-events_told operations = flat_map (λ o. call_event o ∷ return_event o ∷ []) operations
+abbrev pub events_of_operations : List Operation → List Event
+events_of_operations operations = flat_map (λ o. call_event o ∷ return_event o ∷ []) operations
 
 -- a complete history of just these operations, of a queue that held the values at first that they dequeue and do not
 -- enqueue
-pub record IsTold (operations : List Operation) (history : HistoryView) : Type 0 where
+pub record IsHistoryOfOperations (operations : List Operation) (history : HistoryView) : Type 0 where
   pub initial : history.initial ≡ values_before operations
-  pub events : IsPermutation (events_told operations) history.events
+  pub events : IsPermutation (events_of_operations operations) history.events
   pub complete : IsCompleteFrom history.initial history.events

@@ -1,9 +1,10 @@
-//! The history that the lines of a `YES` tell of.
+//! The history of the operations of a `YES`.
 ghost use Rattle.std.specs.Prelude.{◌≡◌, ◌≤◌, IfOk, IsPermutation, MatchOption, length};
 ghost use Rattle.std.specs.List.Sorted.{IsNonDecreasingBy};
 ghost use Rattle.history_merge.specs.Initial.{HistoryView};
 ghost use Rattle.drawing.specs.declared.columns.TheConstants.{MOST_DRAWN};
-ghost use Rattle.commands.specs.Told.{IsTold, dequeued_value, enqueues, events_told, is_enqueued, values_before};
+ghost use Rattle.commands.specs.Operations.{IsHistoryOfOperations, dequeued_value, enqueues, events_of_operations};
+ghost use Rattle.commands.specs.Operations.{is_enqueued, values_before};
 
 use event_records::Event;
 use history_merge::{History, HistoryFault, OpKind, Operation, history_from};
@@ -48,8 +49,8 @@ fn values_before(alloc: Global, operations: &[Operation]) -> Result<Vec<u64>, Al
 }
 
 /// Returns the call and the return of each operation, in the order of the operations.
-fn events_told(alloc: Global, operations: &[Operation]) -> Result<Vec<Event>, AllocError>
-    ensures { IfOk result (λ events. events.items ≡ events_told operations.now) }
+fn events_of_operations(alloc: Global, operations: &[Operation]) -> Result<Vec<Event>, AllocError>
+    ensures { IfOk result (λ events. events.items ≡ events_of_operations operations.now) }
 {
     let mut events = Vec::new(alloc);
     for operation in operations {
@@ -71,16 +72,17 @@ fn by_ticket(events: Vec<Event>) -> Result<Vec<Event>, AllocError>
 
 /// Returns the complete history of just these operations, of a queue that held the values at first that they dequeue
 /// and do not enqueue; or none if there is no such history. Takes O(n²) time for n operations.
-pub(crate) fn history_told(
+pub(crate) fn history_of_operations(
     alloc: Global,
     operations: &[Operation],
 ) -> Result<Option<History>, AllocError>
     requires { length operations.now ≤ MOST_DRAWN }
     ensures { IfOk result (λ found.
-        MatchOption found ((history : HistoryView) → ¬ IsTold operations.now history) (IsTold operations.now)) }
+        MatchOption found ((history : HistoryView) → ¬ IsHistoryOfOperations operations.now history)
+        (IsHistoryOfOperations operations.now)) }
 {
     let initial = values_before(alloc, operations)?;
-    let events = by_ticket(events_told(alloc, operations)?)?;
+    let events = by_ticket(events_of_operations(alloc, operations)?)?;
     match history_from(alloc, initial, &events) {
         Ok(history) => Ok(Some(history)),
         Err(fault) if fault == HistoryFault::Memory => Err(AllocError),
