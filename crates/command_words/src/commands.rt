@@ -159,22 +159,31 @@ fn complete_command<'a>(alloc: Global) -> Result<Command<'a>, AllocError>
     ensures shape { IfOk result (λ c. shape_of c ≡ the_complete) }
     ensures local { IfOk result (λ c. (out-Command c).has_globals ≡ false) }
 {
-    plain_command(alloc, "complete", help::COMPLETE_ABOUT, help::COMPLETE_LONG).arg(flag_option(
-        alloc,
-        "cut",
-        help::CUT_HELP,
-    ))
+    let flag = flag_option(alloc, "cut", help::CUT_HELP);
+    with_flag(
+        plain_command(alloc, "complete", help::COMPLETE_ABOUT, help::COMPLETE_LONG),
+        flag,
+    )
 }
 
 fn stats_command<'a>(alloc: Global) -> Result<Command<'a>, AllocError>
     ensures shape { IfOk result (λ c. shape_of c ≡ the_stats) }
     ensures local { IfOk result (λ c. (out-Command c).has_globals ≡ false) }
 {
-    plain_command(alloc, "stats", help::STATS_ABOUT, help::STATS_LONG).arg(flag_option(
-        alloc,
-        "overtakes",
-        help::OVERTAKES_HELP,
-    ))
+    let flag = flag_option(alloc, "overtakes", help::OVERTAKES_HELP);
+    with_flag(
+        plain_command(alloc, "stats", help::STATS_ABOUT, help::STATS_LONG),
+        flag,
+    )
+}
+
+// Adds one option.
+fn with_flag<'a>(command: Command<'a>, flag: Arg<'a>) -> Result<Command<'a>, AllocError>
+    requires { ((out-Command command).has_globals ≡ false) × (flag.global ≡ false) }
+    ensures app { IfOk result (λ c. app_of c ≡ with_rule (app_of command.entry) (rule_of flag.entry)) }
+    ensures local { IfOk result (λ c. (out-Command c).has_globals ≡ false) }
+{
+    command.arg(flag)
 }
 
 fn flag_option<'a>(alloc: Global, name: &'a str, about: &'a str) -> Arg<'a>

@@ -92,12 +92,11 @@ With `--local` or `--weak-empty` a history is shrunk if it doesn't meet this
 condition, as `check` judges it. The shrunk history doesn't meet it either, and
 each smaller part does.
 
-A text that goes on after its line `end N` is `REFUSED Trailing`: of what
-`stress` writes, take the history on its own by `sed '/^end /q'`.
+A text that goes on after its line `end N` is `REFUSED Trailing`: see `check`.
 
 Status:
-  0  yes
-  1  no
+  0  yes: the output is the verdict
+  1  no: the output is the shrunk history with its verdict
   2  refused: the input (REFUSED ..), or the arguments
   3  failed: a read, a write, or memory (FAULT ..)
 

@@ -18,12 +18,7 @@ pub use laws::{
     conditions_are_weaker, evidence_is_a_true_local_claim, one_verdict_under_a_condition,
     shrunk_selections_are_minimal, true_claims_decide_conditions, violations_are_of_the_whole,
 };
-pub use local::{
-    LocalOrder, LocalOrders, LocalVerdict, decide_local, decide_local_by, decide_local_par,
-    selection,
-};
+pub use local::{LocalOrder, LocalOrders, LocalVerdict, decide_local, decide_local_by, selection};
 pub use producer::{Emptiness, Producer};
 pub use verifying::{verify_local, verify_weakly_empty};
-pub use weak::{
-    decide_weakly_empty, decide_weakly_empty_by, decide_weakly_empty_par, without_empties,
-};
+pub use weak::{decide_weakly_empty, decide_weakly_empty_by, without_empties};

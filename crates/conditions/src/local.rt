@@ -4,7 +4,6 @@ ghost use Rattle.event_records.specs.declared.limits.TheConstants.{MAX_INITIAL};
 ghost use Rattle.history_merge.specs.Initial.{IsCompleteFrom};
 ghost use Rattle.history_merge.specs.Legal.{ArePlacesOf};
 ghost use Rattle.history_merge.specs.Operations.{operations_of};
-ghost use Rattle.parallel_finders.specs.declared.TheConstants.{MAX_PIECES};
 ghost use Rattle.verdicts.specs.Selection.{ArePartOf, contents_of};
 ghost use Rattle.conditions.specs.declared.producer.Emptiness.{Emptiness};
 ghost use Rattle.conditions.specs.Claims.{verdict_of};
@@ -22,9 +21,8 @@ use crate::selections::{Selections, initial_of, part_at, selections_of};
 use crate::sharing::places_selected;
 use event_records::OwnedSlice;
 use history_merge::{History, OpId};
-use parallel_finders::{InPieces, OnePiece, WitnessSearch};
+use parallel_finders::{OnePiece, WitnessSearch};
 use std::alloc::{AllocError, Global};
-use std::thread::Threads;
 use value_match::Violation;
 use verdicts::{Order, Verdict, decide_by};
 
@@ -192,22 +190,6 @@ pub fn decide_local(
     ensures { IfOk result (IsLocallyDecided emptiness (contents_of history.now)) }
 {
     decide_local_by(&OnePiece, alloc, history, emptiness)
-}
-
-/// Returns what [`decide_local`] returns, but searches for covers in pieces that may run at once.
-///
-/// The result doesn't depend on the number of pieces.
-pub fn decide_local_par<R: Threads + Sync>(
-    rt: &R,
-    alloc: Global,
-    history: &History,
-    emptiness: Emptiness,
-    pieces: usize,
-) -> Result<LocalVerdict, AllocError>
-    requires { (1 ≤ pieces) × (pieces ≤ MAX_PIECES) }
-    ensures { IfOk result (IsLocallyDecided emptiness (contents_of history.now)) }
-{
-    decide_local_by(&InPieces { rt, pieces }, alloc, history, emptiness)
 }
 
 /// Returns what [`decide_local`] returns, with this search for covers.

@@ -2,7 +2,7 @@
 ghost use Rattle.std.specs.Prelude.{◌↔◌, ◌≡◌, ◌≤◌, IfOk, IsTrue, List, length};
 ghost use Rattle.event_records.specs.declared.limits.TheConstants.{MAX_INITIAL};
 ghost use Rattle.history_merge.specs.Initial.{IsCompleteFrom};
-ghost use Rattle.history_merge.specs.Legal.{ArePlacesOf, IsLegalOrder};
+ghost use Rattle.history_merge.specs.Legal.{IsLegalOrder};
 ghost use Rattle.history_merge.specs.Operations.{operations_of};
 ghost use Rattle.claims.specs.Claims.{IsTrueClaim};
 ghost use Rattle.verdicts.specs.Selection.{contents_of};
@@ -11,7 +11,7 @@ ghost use Rattle.claims.specs.declared.claimed.ViolationKind.{ViolationKind};
 ghost use Rattle.conditions.specs.declared.producer.Emptiness.{Emptiness};
 ghost use Rattle.conditions.specs.Claims.{IsTrueLocalClaim, IsTrueWeakClaim};
 ghost use Rattle.conditions.specs.Conditions.{selection_of};
-ghost use Rattle.conditions.specs.Inner.Sharing.{AreSharedOut};
+ghost use Rattle.conditions.specs.Inner.Sharing.{ArePlacesFor, AreSharedOut};
 
 use crate::producer::{Emptiness, Producer};
 use crate::ranks::{PRODUCERS, ranked};
@@ -45,11 +45,8 @@ fn is_true_of(
     places: &[OpId],
     claimed: &Claimed,
 ) -> Result<bool, AllocError>
-    requires { (emptiness : Emptiness) × ArePlacesOf (operations_of history.now.events) places.now
-        (selection_of emptiness producer (contents_of history.now)).operations }
-    ensures { IfOk result (λ valid. (emptiness : Emptiness)
-        → ArePlacesOf (operations_of history.now.events) places.now
-        (selection_of emptiness producer (contents_of history.now)).operations
+    requires { (emptiness : Emptiness) × ArePlacesFor emptiness producer history.now places.now }
+    ensures { IfOk result (λ valid. (emptiness : Emptiness) → ArePlacesFor emptiness producer history.now places.now
         → IsTrue valid ↔ IsTrueClaim (selection_of emptiness producer (contents_of history.now)).initial
         (selection_of emptiness producer (contents_of history.now)).operations claimed.now) }
 {
@@ -65,11 +62,8 @@ fn is_order_of(
     places: &[OpId],
     lines: &[Operation],
 ) -> Result<bool, AllocError>
-    requires { (emptiness : Emptiness) × ArePlacesOf (operations_of history.now.events) places.now
-        (selection_of emptiness producer (contents_of history.now)).operations }
-    ensures { IfOk result (λ valid. (emptiness : Emptiness)
-        → ArePlacesOf (operations_of history.now.events) places.now
-        (selection_of emptiness producer (contents_of history.now)).operations
+    requires { (emptiness : Emptiness) × ArePlacesFor emptiness producer history.now places.now }
+    ensures { IfOk result (λ valid. (emptiness : Emptiness) → ArePlacesFor emptiness producer history.now places.now
         → IsTrue valid ↔ IsLegalOrder (selection_of emptiness producer (contents_of history.now)).initial
         (selection_of emptiness producer (contents_of history.now)).operations lines.now) }
 {

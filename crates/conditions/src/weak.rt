@@ -4,7 +4,6 @@ ghost use Rattle.event_records.specs.declared.limits.TheConstants.{MAX_EVENTS};
 ghost use Rattle.history_merge.specs.Initial.{IsCompleteFrom};
 ghost use Rattle.history_merge.specs.declared.operation.Operation.{Operation};
 ghost use Rattle.history_merge.specs.Legal.{ArePlacesOf};
-ghost use Rattle.parallel_finders.specs.declared.TheConstants.{MAX_PIECES};
 ghost use Rattle.verdicts.specs.Selection.{ArePartOf, contents_of, selects};
 ghost use Rattle.conditions.specs.Conditions.{without_empties};
 ghost use Rattle.conditions.specs.Decided.{IsDecidedOf};
@@ -13,9 +12,8 @@ ghost use Rattle.conditions.specs.Inner.Parts.{IsPart};
 use crate::moved::moved_verdict;
 use crate::part::{Part, part_of};
 use history_merge::{History, OpId, OpKind, Operations};
-use parallel_finders::{InPieces, OnePiece, WitnessSearch};
+use parallel_finders::{OnePiece, WitnessSearch};
 use std::alloc::{AllocError, Global};
-use std::thread::Threads;
 use verdicts::{Verdict, decide_by};
 
 /// Returns whether the operation at `place` has a value, which only an empty dequeue has not.
@@ -81,21 +79,6 @@ pub fn decide_weakly_empty(alloc: Global, history: &History) -> Result<Verdict, 
     ensures { IfOk result (IsDecidedOf (contents_of history.now) (without_empties (contents_of history.now))) }
 {
     decide_weakly_empty_by(&OnePiece, alloc, history)
-}
-
-/// Returns what [`decide_weakly_empty`] returns, but searches for a cover in pieces that may run at once.
-///
-/// The result doesn't depend on the number of pieces.
-pub fn decide_weakly_empty_par<R: Threads + Sync>(
-    rt: &R,
-    alloc: Global,
-    history: &History,
-    pieces: usize,
-) -> Result<Verdict, AllocError>
-    requires { (1 ≤ pieces) × (pieces ≤ MAX_PIECES) }
-    ensures { IfOk result (IsDecidedOf (contents_of history.now) (without_empties (contents_of history.now))) }
-{
-    decide_weakly_empty_by(&InPieces { rt, pieces }, alloc, history)
 }
 
 /// Returns what [`decide_weakly_empty`] returns, with this search for a cover.

@@ -133,13 +133,13 @@ impl AnsweredEnq {
 impl AnsweredDeq {
     /// Draws the return ticket of a dequeue, and notes its return.
     pub fn stamp(self, pass: &mut Pass, tickets: &Tickets) -> Noted
+        requires some_left { 0 < pass.old.left }
         requires key { (pass.old.key ≡ tickets.now.key) × (self.question.key ≡ tickets.now.key) }
         requires drew { Contains pass.old.drawn self.question.call }
-        requires some_left { 0 < pass.old.left }
+        ensures drawn { DrawsOne pass.old result.ticket pass.new }
+        ensures later { self.question.call < result.ticket }
         ensures noted { result ≡ return_event self result.ticket }
         ensures kind { IsTrue (answers (call_event self.question).what result.what) }
-        ensures later { self.question.call < result.ticket }
-        ensures drawn { DrawsOne pass.old result.ticket pass.new }
     {
         let what = match self.got {
             Some(value) => What::RetDeq(value),

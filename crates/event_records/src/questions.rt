@@ -166,6 +166,13 @@ impl Asked {
 }
 
 impl AskEnq {
+    /// Returns the call ticket.
+    pub fn call(&self) -> u64
+        ensures { result ≡ self.now.call }
+    {
+        self.asked.drawn.ticket()
+    }
+
     /// Returns the thread that asks.
     pub fn thread(&self) -> u8
         ensures value { result ≡ self.now.thread }
@@ -174,27 +181,20 @@ impl AskEnq {
         self.asked.thread.get()
     }
 
-    /// Returns the number of the operation in its thread, from 0.
-    pub fn number(&self) -> u64
-        ensures value { result ≡ self.now.number }
-        ensures small { result < NAMES_OF_A_THREAD }
-    {
-        self.asked.number
-    }
-
-    /// Returns the call ticket.
-    pub fn call(&self) -> u64
-        ensures { result ≡ self.now.call }
-    {
-        self.asked.drawn.ticket()
-    }
-
     /// Returns the value to enqueue: the thread times 2^32, plus the number. No two questions of one run have the
     /// same value.
     pub fn value(&self) -> u64
         ensures { result ≡ value_name self.now.thread self.now.number }
     {
         self.asked.value()
+    }
+
+    /// Returns the number of the operation in its thread, from 0.
+    pub fn number(&self) -> u64
+        ensures value { result ≡ self.now.number }
+        ensures small { result < NAMES_OF_A_THREAD }
+    {
+        self.asked.number
     }
 }
 

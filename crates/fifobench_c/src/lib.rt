@@ -115,35 +115,35 @@ pub extern "C" fn fifobench_shrink_under(
     alloc: Global,
     text: &[u8],
     condition: u32,
-    answer: &mut [u8],
+    shrunk: &mut [u8],
     needed: &mut usize,
 ) -> u8
     ensures { TellsOneOf (AnswersOrNoMemory (AnswersOf (shrink (condition_of condition))) (input_of text.now))
-        answer.old answer.new needed.new result }
+        shrunk.old shrunk.new needed.new result }
 {
     tell(
         alloc,
         &shrink_text(alloc, text, condition_of(condition)),
-        answer,
+        shrunk,
         needed,
     )
 }
 
-/// Writes the answer of `verify` about the text under a condition, by its bits.
+/// Writes the answer of `verify` about a history and its verdict under a condition, by its bits.
 #[unsafe(no_mangle)]
 pub extern "C" fn fifobench_verify_under(
     alloc: Global,
-    text: &[u8],
+    claimed: &[u8],
     condition: u32,
     answer: &mut [u8],
     needed: &mut usize,
 ) -> u8
-    ensures { TellsOneOf (AnswersOrNoMemory (AnswersOf (verify (condition_of condition))) (input_of text.now))
+    ensures { TellsOneOf (AnswersOrNoMemory (AnswersOf (verify (condition_of condition))) (input_of claimed.now))
         answer.old answer.new needed.new result }
 {
     tell(
         alloc,
-        &verify_text(alloc, text, condition_of(condition)),
+        &verify_text(alloc, claimed, condition_of(condition)),
         answer,
         needed,
     )

@@ -15,7 +15,7 @@ use std::sync::Wait;
 #[derive(Drop)]
 pub struct ArrayBack<R: Wait + Drop> {
     rt: R,
-    queue: ArrayQueue<u64>,
+    ring: ArrayQueue<u64>,
 }
 
 impl<R: Wait + Drop> Model for ArrayBack<R> {
@@ -24,7 +24,7 @@ impl<R: Wait + Drop> Model for ArrayBack<R> {
 
     ghost Value = { ℕ };
 
-    ghost view = { λ a. queue_capacity a.queue };
+    ghost view = { λ a. queue_capacity a.ring };
 }
 
 impl<R: Wait + Drop> ArrayBack<R> {
@@ -33,8 +33,8 @@ impl<R: Wait + Drop> ArrayBack<R> {
         requires { 0 < capacity }
         ensures { IfOk result (λ queue. queue ≡ capacity) }
     {
-        let queue = ArrayQueue::new(alloc, capacity)?;
-        Ok(ArrayBack { rt, queue })
+        let ring = ArrayQueue::new(alloc, capacity)?;
+        Ok(ArrayBack { rt, ring })
     }
 }
 
@@ -46,17 +46,17 @@ impl<R: Wait + Drop + Send + Sync> TestQueue for ArrayBack<R> {
     ghost may_preload = { λ _ _. TakesOrRefuses };
 
     fn enqueue(&self, ask: AskEnq) -> AnsweredEnq {
-        let push = self.queue.push(&self.rt, ask.value());
+        let push = self.ring.push(&self.rt, ask.value());
         pushed(ask, push)
     }
 
     fn dequeue(&self, ask: AskDeq) -> AnsweredDeq {
-        let got = self.queue.pop(&self.rt);
+        let got = self.ring.pop(&self.rt);
         dequeued(ask, got)
     }
 
     fn preload(&self, _place: usize, value: u64) -> bool {
-        self.queue.push(&self.rt, value).is_ok()
+        self.ring.push(&self.rt, value).is_ok()
     }
 }
 
@@ -65,14 +65,14 @@ impl<R: Wait + Drop + Send + Sync> TestQueue for ArrayBack<R> {
 #[derive(Drop)]
 pub struct SegBack<R: Wait + Drop> {
     rt: R,
-    queue: SegQueue<u64>,
+    blocks: SegQueue<u64>,
 }
 
 impl<R: Wait + Drop> SegBack<R> {
     /// Makes an empty queue. It takes memory for its first block of values.
     pub fn new(alloc: Global, rt: R) -> Result<SegBack<R>, AllocError> {
-        let queue = SegQueue::new(alloc)?;
-        Ok(SegBack { rt, queue })
+        let blocks = SegQueue::new(alloc)?;
+        Ok(SegBack { rt, blocks })
     }
 }
 
@@ -84,16 +84,16 @@ impl<R: Wait + Drop + Send + Sync> TestQueue for SegBack<R> {
     ghost may_preload = { λ _ _. TakesOrRefuses };
 
     fn enqueue(&self, ask: AskEnq) -> AnsweredEnq {
-        let push = self.queue.push(&self.rt, ask.value());
+        let push = self.blocks.push(&self.rt, ask.value());
         pushed(ask, push)
     }
 
     fn dequeue(&self, ask: AskDeq) -> AnsweredDeq {
-        let got = self.queue.pop(&self.rt);
+        let got = self.blocks.pop(&self.rt);
         dequeued(ask, got)
     }
 
     fn preload(&self, _place: usize, value: u64) -> bool {
-        self.queue.push(&self.rt, value).is_ok()
+        self.blocks.push(&self.rt, value).is_ok()
     }
 }

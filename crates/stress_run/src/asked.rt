@@ -22,13 +22,7 @@ pub(crate) trait Asked {
     ghost serves: { Self → TicketsView → Option TableId → Type 0 };
 
     // Answers a question to enqueue, whose call ticket this pass drew.
-    fn enqueue(
-        &self,
-        ends: &mut Ends,
-        ask: AskEnq,
-        pass: &mut Pass,
-        tickets: &Tickets,
-    ) -> AnsweredEnq
+    fn enq(&self, ends: &mut Ends, ask: AskEnq, pass: &mut Pass, tickets: &Tickets) -> AnsweredEnq
         requires key { pass.old.key ≡ tickets.now.key }
         requires drew { Contains pass.old.drawn ask.call }
         requires serves { serves self.now tickets.now ends.old.tail }
@@ -39,13 +33,7 @@ pub(crate) trait Asked {
         ensures noted { notes self.now ≡ true → NotesOne ask result.answer pass.old.noted pass.new.noted };
 
     // Answers a question to dequeue, whose call ticket this pass drew.
-    fn dequeue(
-        &self,
-        ends: &mut Ends,
-        ask: AskDeq,
-        pass: &mut Pass,
-        tickets: &Tickets,
-    ) -> AnsweredDeq
+    fn deq(&self, ends: &mut Ends, ask: AskDeq, pass: &mut Pass, tickets: &Tickets) -> AnsweredDeq
         requires key { pass.old.key ≡ tickets.now.key }
         requires drew { Contains pass.old.drawn ask.call }
         requires serves { serves self.now tickets.now ends.old.head }
@@ -65,23 +53,11 @@ impl<'a> Asked for &'a dyn TestQueue {
 
     ghost serves = { λ _ _ _. ⊤ };
 
-    fn enqueue(
-        &self,
-        _ends: &mut Ends,
-        ask: AskEnq,
-        _pass: &mut Pass,
-        _tickets: &Tickets,
-    ) -> AnsweredEnq {
+    fn enq(&self, _: &mut Ends, ask: AskEnq, _: &mut Pass, _: &Tickets) -> AnsweredEnq {
         TestQueue::enqueue(*self, ask)
     }
 
-    fn dequeue(
-        &self,
-        _ends: &mut Ends,
-        ask: AskDeq,
-        _pass: &mut Pass,
-        _tickets: &Tickets,
-    ) -> AnsweredDeq {
+    fn deq(&self, _: &mut Ends, ask: AskDeq, _: &mut Pass, _: &Tickets) -> AnsweredDeq {
         TestQueue::dequeue(*self, ask)
     }
 }

@@ -2,9 +2,8 @@
 ghost use Rattle.std.specs.Prelude.{◌≡◌, ◌⊎◌, All, Contains, None, Some};
 ghost use Rattle.event_records.specs.Question.{Question};
 ghost use Rattle.event_records.specs.declared.kind.Kind.{Kind};
-ghost use Rattle.queue_interface.specs.Answers.{AnswersInKind};
 ghost use Rattle.stress_run.specs.Ends.{end_for, no_ends};
-ghost use Rattle.stress_run.specs.Noted.{NotesOne};
+ghost use Rattle.stress_run.specs.Inner.Proved.{AnswersOne};
 
 use crate::roles::has_kind;
 use event_records::{AnsweredDeq, AnsweredEnq, AskDeq, AskEnq, Kind};
@@ -78,10 +77,7 @@ pub(crate) fn enqueue_at(
     requires key { (pass.old.key ≡ tickets.now.key) × (end.old ≡ tickets.now.key) }
     requires drew { Contains pass.old.drawn ask.call }
     ensures end { end.new ≡ end.old }
-    ensures question { result.question ≡ ask }
-    ensures allowed { AnswersInKind ask result.answer }
-    ensures pass { pass.new ≡ record pass.old { noted = pass.new.noted } }
-    ensures noted { NotesOne ask result.answer pass.old.noted pass.new.noted }
+    ensures answered { AnswersOne ask pass.old result pass.new }
 {
     if pass.put(tickets, end, ask.call(), ask.value()) {
         ask.taken()
@@ -100,10 +96,7 @@ pub(crate) fn dequeue_at(
     requires key { (pass.old.key ≡ tickets.now.key) × (end.old ≡ tickets.now.key) }
     requires drew { Contains pass.old.drawn ask.call }
     ensures end { end.new ≡ end.old }
-    ensures question { result.question ≡ ask }
-    ensures allowed { AnswersInKind ask result.answer }
-    ensures pass { pass.new ≡ record pass.old { noted = pass.new.noted } }
-    ensures noted { NotesOne ask result.answer pass.old.noted pass.new.noted }
+    ensures answered { AnswersOne ask pass.old result pass.new }
 {
     match pass.take(tickets, end, ask.call()) {
         Some(value) => ask.got(value),

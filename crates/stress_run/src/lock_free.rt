@@ -18,13 +18,7 @@ impl Asked for LockFree {
 
     ghost serves = { λ _ tickets _. tickets.shared ≡ true };
 
-    fn enqueue(
-        &self,
-        _ends: &mut Ends,
-        ask: AskEnq,
-        pass: &mut Pass,
-        tickets: &Tickets,
-    ) -> AnsweredEnq {
+    fn enq(&self, _: &mut Ends, ask: AskEnq, pass: &mut Pass, tickets: &Tickets) -> AnsweredEnq {
         if pass.push(tickets, ask.call(), ask.value()) {
             ask.taken()
         } else {
@@ -32,13 +26,7 @@ impl Asked for LockFree {
         }
     }
 
-    fn dequeue(
-        &self,
-        _ends: &mut Ends,
-        ask: AskDeq,
-        pass: &mut Pass,
-        tickets: &Tickets,
-    ) -> AnsweredDeq {
+    fn deq(&self, _: &mut Ends, ask: AskDeq, pass: &mut Pass, tickets: &Tickets) -> AnsweredDeq {
         match pass.pop(tickets, ask.call()) {
             Some(value) => ask.got(value),
             None => ask.empty(),

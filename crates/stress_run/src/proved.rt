@@ -44,17 +44,13 @@ pub(crate) struct LockedLog<J: OfRun> {
 
 impl<J: OfRun> LockedLog<J> {
     ghost use Rattle.std.specs.Prelude.{◌≡◌, Contains};
-    ghost use Rattle.queue_interface.specs.Answers.{AnswersInKind};
-    ghost use Rattle.stress_run.specs.Noted.{NotesOne};
+    ghost use Rattle.stress_run.specs.Inner.Proved.{AnswersOne};
 
     // Enqueues the value of the question, unless out of memory, and notes the answer.
     fn enqueue(&mut self, ask: AskEnq, pass: &mut Pass, tickets: &Tickets) -> AnsweredEnq
         requires key { (pass.old.key ≡ tickets.now.key) × (tickets.now.key ≡ J.word) }
         requires drew { Contains pass.old.drawn ask.call }
-        ensures question { result.question ≡ ask }
-        ensures allowed { AnswersInKind ask result.answer }
-        ensures pass { pass.new ≡ record pass.old { noted = pass.new.noted } }
-        ensures noted { NotesOne ask result.answer pass.old.noted pass.new.noted }
+        ensures answered { AnswersOne ask pass.old result pass.new }
     {
         let value = ask.value();
         if self.list.put(value) {
@@ -70,10 +66,7 @@ impl<J: OfRun> LockedLog<J> {
     fn dequeue(&mut self, ask: AskDeq, pass: &mut Pass, tickets: &Tickets) -> AnsweredDeq
         requires key { (pass.old.key ≡ tickets.now.key) × (tickets.now.key ≡ J.word) }
         requires drew { Contains pass.old.drawn ask.call }
-        ensures question { result.question ≡ ask }
-        ensures allowed { AnswersInKind ask result.answer }
-        ensures pass { pass.new ≡ record pass.old { noted = pass.new.noted } }
-        ensures noted { NotesOne ask result.answer pass.old.noted pass.new.noted }
+        ensures answered { AnswersOne ask pass.old result pass.new }
     {
         match self.list.take() {
             Some(value) => {
@@ -140,23 +133,11 @@ impl<'r, J: OfRun + Send + Sync, R: Wait> Asked for Session<'r, J, R> {
 
     ghost serves = { λ _ tickets _. tickets.key ≡ J.word };
 
-    fn enqueue(
-        &self,
-        _ends: &mut Ends,
-        ask: AskEnq,
-        pass: &mut Pass,
-        tickets: &Tickets,
-    ) -> AnsweredEnq {
+    fn enq(&self, _: &mut Ends, ask: AskEnq, pass: &mut Pass, tickets: &Tickets) -> AnsweredEnq {
         self.locked_log.lock(self.rt).enqueue(ask, pass, tickets)
     }
 
-    fn dequeue(
-        &self,
-        _ends: &mut Ends,
-        ask: AskDeq,
-        pass: &mut Pass,
-        tickets: &Tickets,
-    ) -> AnsweredDeq {
+    fn deq(&self, _: &mut Ends, ask: AskDeq, pass: &mut Pass, tickets: &Tickets) -> AnsweredDeq {
         self.locked_log.lock(self.rt).dequeue(ask, pass, tickets)
     }
 }

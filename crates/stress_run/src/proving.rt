@@ -37,6 +37,9 @@ use std::thread::Threads;
 use tickets::{HeadEnd, Log, Pass, TailEnd, Tickets};
 use workloads::Plan;
 
+// The result of a run.
+type Ran = Result<Recorded, RunFault>;
+
 /// A queue whose runs are proved linearizable.
 #[derive(Clone, Copy, Debug, PartialEq, Eq)]
 pub enum ProvedQueue {
@@ -64,6 +67,16 @@ pub enum ProvedQueue {
     Ring,
 }
 
+// What a run begins with, if it may: the initial values, the plan and the sizes.
+#[derive(Drop)]
+struct Start<'p> {
+    held: Vec<u64>,
+    plan: &'p Plan,
+    sizes: Sizes,
+    ghost names: { AreInitialNames held.items },
+    ghost within: { IsWithinLimits sizes.ring sizes.tries },
+}
+
 // Copies these values into a list.
 fn listed(alloc: Global, values: &[u64]) -> Result<Fifo, AllocError>
     ensures { IfOk result (λ list. list ≡ values.now) }
@@ -77,182 +90,127 @@ fn listed(alloc: Global, values: &[u64]) -> Result<Fifo, AllocError>
     Ok(list)
 }
 
-// Runs a plan on a list under one lock, with these tickets and this log. The caller chooses `J` for its run.
+// Makes a run on a list under one lock, with these tickets and this log. The caller chooses `J` for its run.
 fn run_named<J: OfRun + Send + Sync, R: Threads + Wait + Sync>(
     rt: &R,
     alloc: Global,
     named: (Tickets, Pass, Log),
-    initial: Vec<u64>,
-    plan: &Plan,
-    sizes: Sizes,
+    start: Start<'_>,
 ) -> Result<Recorded, RunFault>
-    requires sizes { IsWithinLimits sizes.ring sizes.tries }
-    requires names { AreInitialNames initial.items }
-    requires run { (named.0.key ≡ J.word) × (initial.items ≡ J.initial) }
-    requires budget { named.0.budget ≡ 2 * sum_by length plan.now }
-    requires pass { named.1 ≡ fresh_pass named.0.key (2 * sum_by length plan.now) }
+    requires run { (named.0.key ≡ J.word) × (start.held.items ≡ J.initial) }
+    requires budget { named.0.budget ≡ 2 * sum_by length start.plan.now }
+    requires pass { named.1 ≡ fresh_pass named.0.key (2 * sum_by length start.plan.now) }
     requires log { named.2 ≡ record { key = named.0.key; notes = [] } }
-    ensures proved { IfOk result (IsProvedRun plan.now sizes.ring initial.items) }
-    ensures fault { IfErr result (IsFaultOfRun AnswersInKind [] plan.now sizes) }
+    ensures proved { IfOk result (IsProvedRun start.plan.now start.sizes.ring start.held.items) }
+    ensures fault { IfErr result (IsFaultOfRun AnswersInKind [] start.plan.now start.sizes) }
 {
+    let Start { held, plan, sizes } = start;
     let (tickets, pass, log) = named;
-    let list = listed(alloc, initial.as_slice())?;
-    let session: Session<'_, J, R> = Session::new(rt, list, log);
-    let (lists, pass) = run_on(
-        rt,
-        alloc,
-        &session,
-        &tickets,
-        pass,
-        Ends::none(),
-        plan,
-        sizes,
-    )?;
-    let log = session.into_log();
+    let list = listed(alloc, held.as_slice())?;
+    let queue: Session<'_, J, R> = Session::new(rt, list, log);
+    let (lists, pass) = run_on(rt, alloc, &queue, &tickets, pass, Ends::none(), plan, sizes)?;
+    let log = queue.into_log();
     let total = tickets.close_with_log(pass, log);
     Ok(Recorded {
-        initial,
+        initial: held,
         lists,
         total,
     })
 }
 
-// Runs a plan on a ring with a lock for each end, which stands beside the ticket word. The caller chooses `J` for its
+// Makes a run on a ring with a lock for each end, which stands beside the ticket word. The caller chooses `J` for its
 // run.
 fn run_between<J: OfRun + Send + Sync, R: Threads + Wait + Sync>(
     rt: &R,
     alloc: Global,
     named: (Tickets, Pass, TailEnd, HeadEnd),
-    initial: Vec<u64>,
-    plan: &Plan,
-    sizes: Sizes,
+    start: Start<'_>,
 ) -> Result<Recorded, RunFault>
-    requires sizes { IsWithinLimits sizes.ring sizes.tries }
-    requires names { AreInitialNames initial.items }
-    requires run { (named.0.key ≡ J.word) × (named.0.ended ≡ true) × (named.0.initial ≡ initial.items)
-        × (named.0.room ≡ length initial.items + sum_by length plan.now) }
-    requires budget { named.0.budget ≡ 2 * sum_by length plan.now }
-    requires pass { named.1 ≡ fresh_pass named.0.key (2 * sum_by length plan.now) }
+    requires run { (named.0.key ≡ J.word) × (named.0.ended ≡ true) × (named.0.initial ≡ start.held.items)
+        × (named.0.room ≡ length start.held.items + sum_by length start.plan.now) }
+    requires budget { named.0.budget ≡ 2 * sum_by length start.plan.now }
+    requires pass { named.1 ≡ fresh_pass named.0.key (2 * sum_by length start.plan.now) }
     requires tail { named.2 ≡ named.0.key }
     requires head { named.3 ≡ named.0.key }
-    ensures proved { IfOk result (IsProvedRun plan.now sizes.ring initial.items) }
-    ensures bounded { IfOk result (IsRunWithin (length initial.items + sum_by length plan.now) initial.items) }
-    ensures fault { IfErr result (IsFaultOfRun AnswersInKind [] plan.now sizes) }
+    ensures proved { IfOk result (IsProvedRun start.plan.now start.sizes.ring start.held.items) }
+    ensures bounded { IfOk result
+        (IsRunWithin (length start.held.items + sum_by length start.plan.now) start.held.items) }
+    ensures fault { IfErr result (IsFaultOfRun AnswersInKind [] start.plan.now start.sizes) }
 {
+    let Start { held, plan, sizes } = start;
     let (tickets, pass, tail, head) = named;
     let queue: TwoLocks<'_, J, R> = TwoLocks::new(rt, tail, head);
     let (lists, pass) = run_on(rt, alloc, &queue, &tickets, pass, Ends::none(), plan, sizes)?;
     let total = tickets.close_with_ring(pass);
     Ok(Recorded {
-        initial,
+        initial: held,
         lists,
         total,
     })
 }
 
-// Runs a plan on a list under one lock, which holds the initial values at first.
-fn run_one_lock<R: Threads + Wait + Sync>(
-    rt: &R,
-    alloc: Global,
-    initial: Vec<u64>,
-    plan: &Plan,
-    sizes: Sizes,
-) -> Result<Recorded, RunFault>
-    requires sizes { IsWithinLimits sizes.ring sizes.tries }
-    requires names { AreInitialNames initial.items }
-    ensures proved { IfOk result (IsProvedRun plan.now sizes.ring initial.items) }
-    ensures fault { IfErr result (IsFaultOfRun AnswersInKind [] plan.now sizes) }
+// Makes a run on a list under one lock, which holds the initial values at first.
+fn run_one_lock<R: Threads + Wait + Sync>(rt: &R, alloc: Global, start: Start<'_>) -> Ran
+    ensures proved { IfOk result (IsProvedRun start.plan.now start.sizes.ring start.held.items) }
+    ensures fault { IfErr result (IsFaultOfRun AnswersInKind [] start.plan.now start.sizes) }
 {
-    let named = Tickets::with_log(alloc, 2 * plan.operations())?;
-    run_named::<Brand, R>(rt, alloc, named, initial, plan, sizes)
+    let named = Tickets::with_log(alloc, 2 * start.plan.operations())?;
+    run_named::<Brand, R>(rt, alloc, named, start)
 }
 
-// Runs a plan on a ring with a lock for each end, which holds the initial values at first.
-fn run_two_locks<R: Threads + Wait + Sync>(
-    rt: &R,
-    alloc: Global,
-    initial: Vec<u64>,
-    plan: &Plan,
-    sizes: Sizes,
-) -> Result<Recorded, RunFault>
-    requires sizes { IsWithinLimits sizes.ring sizes.tries }
-    requires names { AreInitialNames initial.items }
-    ensures proved { IfOk result (IsProvedRun plan.now sizes.ring initial.items) }
-    ensures bounded { IfOk result (IsRunWithin (length initial.items + sum_by length plan.now) initial.items) }
-    ensures fault { IfErr result (IsFaultOfRun AnswersInKind [] plan.now sizes) }
+// Makes a run on a ring with a lock for each end, which holds the initial values at first.
+fn run_two_locks<R: Threads + Wait + Sync>(rt: &R, alloc: Global, start: Start<'_>) -> Ran
+    ensures proved { IfOk result (IsProvedRun start.plan.now start.sizes.ring start.held.items) }
+    ensures bounded { IfOk result
+        (IsRunWithin (length start.held.items + sum_by length start.plan.now) start.held.items) }
+    ensures fault { IfErr result (IsFaultOfRun AnswersInKind [] start.plan.now start.sizes) }
 {
-    let operations = plan.operations();
-    let room = initial.len() + operations as usize;
-    let named = Tickets::with_ring(alloc, 2 * operations, initial.as_slice(), room)?;
-    run_between::<Brand, R>(rt, alloc, named, initial, plan, sizes)
+    let operations = start.plan.operations();
+    let room = start.held.len() + operations as usize;
+    let named = Tickets::with_ring(alloc, 2 * operations, start.held.as_slice(), room)?;
+    run_between::<Brand, R>(rt, alloc, named, start)
 }
 
-// Runs a plan on nodes without a lock, which hold the initial values at first.
+// Makes a run on nodes without a lock, which hold the initial values at first.
 #[tactic(auto, using(crate::proofs::Ended::no_mark))]
-fn run_lock_free<R: Threads + Sync>(
-    rt: &R,
-    alloc: Global,
-    initial: Vec<u64>,
-    plan: &Plan,
-    sizes: Sizes,
-) -> Result<Recorded, RunFault>
-    requires sizes { IsWithinLimits sizes.ring sizes.tries }
-    requires names { AreInitialNames initial.items }
-    ensures proved { IfOk result (IsProvedRun plan.now sizes.ring initial.items) }
-    ensures fault { IfErr result (IsFaultOfRun AnswersInKind [] plan.now sizes) }
+fn run_lock_free<R: Threads + Sync>(rt: &R, alloc: Global, start: Start<'_>) -> Ran
+    ensures proved { IfOk result (IsProvedRun start.plan.now start.sizes.ring start.held.items) }
+    ensures fault { IfErr result (IsFaultOfRun AnswersInKind [] start.plan.now start.sizes) }
 {
+    let Start { held, plan, sizes } = start;
     let operations = plan.operations();
-    let room = initial.len() + operations as usize;
-    let (tickets, pass) = Tickets::with_shared_nodes(
-        alloc,
-        2 * operations,
-        initial.as_slice(),
-        room,
-    )?;
-    let (lists, pass) = run_on(
-        rt,
-        alloc,
-        &LockFree,
-        &tickets,
-        pass,
-        Ends::none(),
-        plan,
-        sizes,
-    )?;
+    let room = held.len() + operations as usize;
+    let (tickets, pass) = Tickets::with_shared_nodes(alloc, 2 * operations, held.as_slice(), room)?;
+    let queue = LockFree;
+    let (lists, pass) = run_on(rt, alloc, &queue, &tickets, pass, Ends::none(), plan, sizes)?;
     let total = tickets.close_with_shared_nodes(pass);
     Ok(Recorded {
-        initial,
+        initial: held,
         lists,
         total,
     })
 }
 
-// Runs a plan on a ring without a lock, which holds the initial values at first.
-fn run_ring<R: Threads + Sync>(
-    rt: &R,
-    alloc: Global,
-    initial: Vec<u64>,
-    plan: &Plan,
-    sizes: Sizes,
-) -> Result<Recorded, RunFault>
-    requires sizes { IsWithinLimits sizes.ring sizes.tries }
-    requires names { AreInitialNames initial.items }
-    requires roles { HasOneOfEach plan.now }
-    ensures proved { IfOk result (IsProvedRun plan.now sizes.ring initial.items) }
-    ensures bounded { IfOk result (IsRunWithin (max RING_PLACES (length initial.items)) initial.items) }
-    ensures fault { IfErr result (IsFaultOfRun AnswersInKind [] plan.now sizes) }
+// Makes a run on a ring without a lock, which holds the initial values at first.
+fn run_ring<R: Threads + Sync>(rt: &R, alloc: Global, start: Start<'_>) -> Ran
+    requires roles { HasOneOfEach start.plan.now }
+    ensures proved { IfOk result (IsProvedRun start.plan.now start.sizes.ring start.held.items) }
+    ensures bounded { IfOk result
+        (IsRunWithin (max RING_PLACES (length start.held.items)) start.held.items) }
+    ensures fault { IfErr result (IsFaultOfRun AnswersInKind [] start.plan.now start.sizes) }
 {
+    let Start { held, plan, sizes } = start;
     let (tickets, pass, tail, head) = Tickets::with_ring(
         alloc,
         2 * plan.operations(),
-        initial.as_slice(),
-        RING_PLACES.max(initial.len()),
+        held.as_slice(),
+        RING_PLACES.max(held.len()),
     )?;
     let ends = Ends::both(tail, head);
     let (lists, pass) = run_on(rt, alloc, &Ring, &tickets, pass, ends, plan, sizes)?;
     let total = tickets.close_with_ring(pass);
     Ok(Recorded {
-        initial,
+        initial: held,
         lists,
         total,
     })
@@ -268,28 +226,24 @@ fn can_run(queue: ProvedQueue, plan: &Plan) -> bool
     }
 }
 
-// Runs a plan on this queue, which holds the initial values at first.
+// Makes a run on this queue, which holds the initial values at first.
 fn run_held<R: Threads + Wait + Sync>(
     rt: &R,
     alloc: Global,
     queue: ProvedQueue,
-    initial: Vec<u64>,
-    plan: &Plan,
-    sizes: Sizes,
+    start: Start<'_>,
 ) -> Result<Recorded, RunFault>
-    requires sizes { IsWithinLimits sizes.ring sizes.tries }
-    requires names { AreInitialNames initial.items }
-    requires roles { CanRun queue plan.now }
-    ensures proved { IfOk result (IsProvedRun plan.now sizes.ring initial.items) }
-    ensures bounded { IfSome (room_of queue initial.items plan.now)
-        (λ room. IfOk result (IsRunWithin room initial.items)) }
-    ensures fault { IfErr result (IsFaultOfRun AnswersInKind [] plan.now sizes) }
+    requires roles { CanRun queue start.plan.now }
+    ensures proved { IfOk result (IsProvedRun start.plan.now start.sizes.ring start.held.items) }
+    ensures bounded { IfSome (room_of queue start.held.items start.plan.now)
+        (λ room. IfOk result (IsRunWithin room start.held.items)) }
+    ensures fault { IfErr result (IsFaultOfRun AnswersInKind [] start.plan.now start.sizes) }
 {
     match queue {
-        ProvedQueue::OneLock => run_one_lock(rt, alloc, initial, plan, sizes),
-        ProvedQueue::TwoLocks => run_two_locks(rt, alloc, initial, plan, sizes),
-        ProvedQueue::LockFree => run_lock_free(rt, alloc, initial, plan, sizes),
-        ProvedQueue::Ring => run_ring(rt, alloc, initial, plan, sizes),
+        ProvedQueue::OneLock => run_one_lock(rt, alloc, start),
+        ProvedQueue::TwoLocks => run_two_locks(rt, alloc, start),
+        ProvedQueue::LockFree => run_lock_free(rt, alloc, start),
+        ProvedQueue::Ring => run_ring(rt, alloc, start),
     }
 }
 
@@ -335,5 +289,5 @@ pub fn run_proved<R: Threads + Wait + Sync>(
     if !can_run(queue, plan) {
         return Err(RunFault::Roles);
     }
-    run_held(rt, alloc, queue, held, plan, sizes)
+    run_held(rt, alloc, queue, Start { held, plan, sizes })
 }

@@ -19,26 +19,14 @@ impl Asked for Ring {
 
     ghost serves = { λ _ tickets end. end ≡ Some tickets.key };
 
-    fn enqueue(
-        &self,
-        ends: &mut Ends,
-        ask: AskEnq,
-        pass: &mut Pass,
-        tickets: &Tickets,
-    ) -> AnsweredEnq {
+    fn enq(&self, ends: &mut Ends, ask: AskEnq, pass: &mut Pass, tickets: &Tickets) -> AnsweredEnq {
         match &mut ends.tail {
             Some(end) => enqueue_at(end, ask, pass, tickets),
             None => unreachable!(),
         }
     }
 
-    fn dequeue(
-        &self,
-        ends: &mut Ends,
-        ask: AskDeq,
-        pass: &mut Pass,
-        tickets: &Tickets,
-    ) -> AnsweredDeq {
+    fn deq(&self, ends: &mut Ends, ask: AskDeq, pass: &mut Pass, tickets: &Tickets) -> AnsweredDeq {
         match &mut ends.head {
             Some(end) => dequeue_at(end, ask, pass, tickets),
             None => unreachable!(),

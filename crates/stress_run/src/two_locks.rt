@@ -59,30 +59,18 @@ impl<'r, J: OfRun + Send + Sync, R: Wait> Asked for TwoLocks<'r, J, R> {
     ghost use Rattle.std.specs.Prelude.{◌≡◌, true};
     ghost use Rattle.queue_interface.specs.Answers.{AnswersInKind};
 
+    ghost serves = { λ _ tickets _. tickets.key ≡ J.word };
+
     ghost may = { λ _. AnswersInKind };
 
     ghost notes = { λ _. true };
 
-    ghost serves = { λ _ tickets _. tickets.key ≡ J.word };
-
-    fn enqueue(
-        &self,
-        _ends: &mut Ends,
-        ask: AskEnq,
-        pass: &mut Pass,
-        tickets: &Tickets,
-    ) -> AnsweredEnq {
+    fn enq(&self, _: &mut Ends, ask: AskEnq, pass: &mut Pass, tickets: &Tickets) -> AnsweredEnq {
         let mut tail = self.tail.lock(self.rt);
         enqueue_at(&mut tail.end, ask, pass, tickets)
     }
 
-    fn dequeue(
-        &self,
-        _ends: &mut Ends,
-        ask: AskDeq,
-        pass: &mut Pass,
-        tickets: &Tickets,
-    ) -> AnsweredDeq {
+    fn deq(&self, _: &mut Ends, ask: AskDeq, pass: &mut Pass, tickets: &Tickets) -> AnsweredDeq {
         let mut head = self.head.lock(self.rt);
         dequeue_at(&mut head.end, ask, pass, tickets)
     }

@@ -270,11 +270,11 @@ fn stamped_answer<Q: Asked>(
 {
     match ask {
         AnyAsk::Enq(ask) => {
-            let taken = queue.enqueue(ends, ask, pass, tickets);
+            let taken = queue.enq(ends, ask, pass, tickets);
             taken.stamp(pass, tickets)
         }
         AnyAsk::Deq(ask) => {
-            let got = queue.dequeue(ends, ask, pass, tickets);
+            let got = queue.deq(ends, ask, pass, tickets);
             got.stamp(pass, tickets)
         }
     }

@@ -61,28 +61,28 @@ pub(crate) fn push_rect(
     )
 }
 
-/// Adds a rectangle of a class without its lower edge.
+/// Adds a rectangle of a class without its lower edge, of which this size is shown.
 #[tactic(auto, unfolding(crate::specs::Elements::open_rect))]
 pub(crate) fn push_open_rect(
     text: &mut Vec<u8>,
     class: &[u8],
     round: u128,
     at: (u128, u128),
-    size: (u128, u128),
+    shown: (u128, u128),
 ) -> Added
     requires x { at.0 ≤ 2 ^ 92 }
     requires y { at.1 ≤ 2 ^ 92 }
-    requires wide { size.0 ≤ 2 ^ 92 }
-    requires high { size.1 ≤ 2 ^ 92 }
+    requires wide { shown.0 ≤ 2 ^ 92 }
+    requires high { shown.1 ≤ 2 ^ 92 }
     ensures { OnOk result
-        (text.new.items ≡ text.old.items ++ text_of (open_rect class.now round at.0 at.1 size.0 size.1)) }
+        (text.new.items ≡ text.old.items ++ text_of (open_rect class.now round at.0 at.1 shown.0 shown.1)) }
 {
     let window = [
-        Number(b"width", at.0 + size.0 + 6),
-        Number(b"height", at.1 + size.1),
+        Number(b"width", at.0 + shown.0 + 6),
+        Number(b"height", at.1 + shown.1),
     ];
     push_start(text, b"svg", &window)?;
-    push_rect(text, class, round, at, (size.0, size.1 + 20))?;
+    push_rect(text, class, round, at, (shown.0, shown.1 + 20))?;
     push_end(text, b"svg")
 }
 

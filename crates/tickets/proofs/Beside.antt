@@ -309,7 +309,20 @@ module _ (initial : List ℕ) (room : ℕ) (row : List ℕ) (log : List Note) (v
         filled = filled;
       }
 
+  -- the passes change, none of them has a right, and what each knows is true
+  shared_again : (after : List Holding) → sum_by rights after ≡ 0 → All (λ h. FitsWalk row h.walk) after → AreShared initial room row log after
+  shared_again after none walks = record { none = none; wide = n.wide; walks = walks; filled = n.filled }
+
 -- ---- the words after the ticket word
+
+-- a pass with as many ends takes the place of another, and none has an end
+no_end_after : (views : List Holding) (i : ℕ) (v w : Holding) → sum_by ends_of views ≡ 0 → get_elem? views i ≡ some v → w.tail ≡ v.tail → w.head ≡ v.head
+    → sum_by ends_of (set views i w) ≡ 0
+no_end_after views i v w none at tail head =
+    let a = counts-set ends_of views i v w at in
+    let y = ap holders tail in
+    let z = ap holders head in
+    omega arith
 
 -- a pass among those of which none has an end
 no_end : (views : List Holding) (i : ℕ) (v : Holding) → sum_by ends_of views ≡ 0 → get_elem? views i ≡ some v → ends_of v ≡ 0
@@ -326,12 +339,7 @@ module _ (setup : Setup) (row : List ℕ) (log : List Note) (views : List Holdin
   beside_same (inl n) i v w at same_log tail head walk = inl (n.0, by_form n.1)
     where
       by_form : AreOwned setup row log views → AreOwned setup row log (set views i w)
-      by_form (inl p) =
-          let a = counts-set ends_of views i v w at in
-          let y = ap holders tail in
-          let z = ap holders head in
-          let none = p.1 in
-          inl (p.0, omega arith)
+      by_form (inl p) = inl (p.0, no_end_after views i v w p.1 at tail head)
       by_form (inr r) = inr (r.0, nodes_same _ _ _ _ views r.1 i v w at same_log tail head)
   beside_same (inr n) i v w at same_log tail head walk =
       inr (
@@ -363,13 +371,9 @@ module _ (setup : Setup) (row : List ℕ) (log : List Note) (views : List Holdin
       let P : Holding → Type 0 = λ h. FitsWalk row h.walk in
       inr (
         n.0,
-        record {
-          none = omega arith;
-          wide = n.1.wide;
-          walks = All-push P (set views i left) right (All-set P views i left (subst (FitsWalk row) (sym walk) (at_place P views i v at n.1.walks)) n.1.walks)
-              (subst (FitsWalk row) (sym rest) tt);
-          filled = n.1.filled;
-        },
+        shared_again _ _ _ _ views n.1 (set views i left ++ right ∷ []) (omega arith)
+            (All-push P (set views i left) right (All-set P views i left (subst (FitsWalk row) (sym walk) (at_place P views i v at n.1.walks)) n.1.walks)
+            (subst (FitsWalk row) (sym rest) tt)),
       )
 
   -- a pass takes the rights of another, which is left with none
@@ -398,13 +402,9 @@ module _ (setup : Setup) (row : List ℕ) (log : List Note) (views : List Holdin
       let P : Holding → Type 0 = λ h. FitsWalk row h.walk in
       inr (
         n.0,
-        record {
-          none = omega arith;
-          wide = n.1.wide;
-          walks = All-set P (set views i m) j s (subst (FitsWalk row) (sym rest) tt)
-              (All-set P views i m (fit_walk (at_place P views i v at n.1.walks)) n.1.walks);
-          filled = n.1.filled;
-        },
+        shared_again _ _ _ _ views n.1 (set (set views i m) j s) (omega arith)
+            (All-set P (set views i m) j s (subst (FitsWalk row) (sym rest) tt)
+            (All-set P views i m (fit_walk (at_place P views i v at n.1.walks)) n.1.walks)),
       )
 
   -- a note of who knows the log
@@ -413,12 +413,7 @@ module _ (setup : Setup) (row : List ℕ) (log : List Note) (views : List Holdin
   beside_known (inl n) i v w log' at knows tail head = inl (n.0, by_form n.1)
     where
       by_form : AreOwned setup row log views → AreOwned setup row log' (set views i w)
-      by_form (inl p) =
-          let a = counts-set ends_of views i v w at in
-          let y = ap holders tail in
-          let z = ap holders head in
-          let none = p.1 in
-          inl (p.0, omega arith)
+      by_form (inl p) = inl (p.0, no_end_after views i v w p.1 at tail head)
       by_form (inr r) =
           let p = place_in views i v at in
           let within = get_or-le-sum_by knowers_of views i v p.0 in

@@ -43,7 +43,7 @@ use Rattle.tickets.proofs.Beside.{beside_split, beside_join, ends_beside, ring_b
 use Rattle.tickets.proofs.Rows.{nodes_at_tail, nodes_at_head, knowers_of, tails_of, heads_of, bounded_is_queue}
 use Rattle.tickets.proofs.Rows.{laid_staged, laid_pushed, laid_full, laid_empty, laid_taken}
 use Rattle.tickets.proofs.Turns.{same_position, next_position, position_within, full_ring, free_ring}
-use Rattle.tickets.proofs.Steps.{kept, kept_else, kept_seen, account_same, account_push, contains_some, drawn_below}
+use Rattle.tickets.proofs.Steps.{ticket_of, row_of, kept, kept_else, kept_seen, account_same, account_push, contains_some, drawn_below}
 use Rattle.tickets.proofs.Steps.{HasNoEnd, first_word, others_idle, none_rise, first_plain}
 
 -- the tail end, of which this is known
@@ -171,6 +171,13 @@ module _ (setup : Setup) where
       → AreBooked setup n words views
   booked n words log views l nodes = record { log = log; logged = l; nodes = nodes }
 
+  -- a pass changes, and notes nothing
+  pub booked_same : (n : ℕ) (words : List ℕ) (log : List Note) (views : List Holding) (i : ℕ) (v w : Holding) → IsLogged n log views
+      → get_elem? views i ≡ some v → w.noted ≡ v.noted → w.log ≡ v.log → (w.drawn ≡ [] → v.drawn ≡ [])
+      → AreBeside setup (drop 1 words) log (set views i w) → AreBooked setup n words (set views i w)
+  booked_same n words log views i v w l at noted knows drawn nodes =
+      booked n words log (set views i w) (logged_same n n log views i v w (omega arith) l at noted knows drawn) nodes
+
   -- ---- the ends go from seat to seat
 
   -- a split gives both ends a seat of their own
@@ -236,18 +243,12 @@ module _ (setup : Setup) where
         → Allows (KeepsAccount setup) slots id me 2 (λ n. n) (λ found after. Glances call x (position room (at + 1)) room me.0 found after.0 × (after.1 ≡ me.1))
     glances x unstaged drew s r _ here _ = by_found (cases_eq (get_or s.words 2 0) (position room (at + 1)))
       where
-        row : List ℕ
-        row = drop 1 s.words
-
-        n : ℕ
-        n = get_or s.words 0 0
-
-        own : (setup.is_shared ≡ false) × (setup.has_ring ≡ true) × AreNodes (initial_of setup) (room_of setup) row r.1.log s.views
+        own : (setup.is_shared ≡ false) × (setup.has_ring ≡ true) × AreNodes (initial_of setup) (room_of setup) (row_of s) r.1.log s.views
         own = ends_beside setup _ _ s.views r.1.nodes id me.0 here (let one = ap holders has in omega arith)
 
-        fits : FitsTail (room_of setup) own.2.put own.2.taken row (Some t)
-        fits = subst (FitsTail (room_of setup) own.2.put own.2.taken row) has
-            (at_place (λ h. FitsTail (room_of setup) own.2.put own.2.taken row h.tail) s.views id me.0 here own.2.tails)
+        fits : FitsTail (room_of setup) own.2.put own.2.taken (row_of s) (Some t)
+        fits = subst (FitsTail (room_of setup) own.2.put own.2.taken (row_of s)) has
+            (at_place (λ h. FitsTail (room_of setup) own.2.put own.2.taken (row_of s) h.tail) s.views id me.0 here own.2.tails)
 
         same_room : room ≡ room_of setup
         same_room = sym (tail_of at seen room staged me.0.tail is).4 ∙ fits.1
@@ -265,22 +266,23 @@ module _ (setup : Setup) where
             × (Glances call x (position room (at + 1)) room me.0 (get_or s.words 2 0) w × (carried_after me.1 a ≡ me.1))
         by_found (inl same) =
             let v = me.0 in
-            let w = told call (effect.Not x) n v in
+            let w = told call (effect.Not x) (ticket_of s) v in
             let b = r.1 in
-            let log' = b.log ++ note_at call (effect.Not x) n ∷ [] in
+            let log' = b.log ++ note_at call (effect.Not x) (ticket_of s) ∷ [] in
             let count = own.2.laid.count in
             let within = own.2.laid.within in
             let full = full_ring (room_of setup) own.2.put own.2.taken (omega arith) (omega arith) (sym found_is ∙ same ∙ next_is) in
-            let nodes = nodes_at_tail _ _ row b.log s.views own.2 id v w row log' own.2.put here (ap holders has) (ap holders has) refl refl (omega arith)
-            (λ _. refl) (subst (FitsTail (room_of setup) own.2.put own.2.taken row) (sym has) fits)
-            (laid_full _ _ row b.log own.2.put own.2.taken own.2.laid x call n full) in (
+            let nodes = nodes_at_tail _ _ (row_of s) b.log s.views own.2 id v w (row_of s) log' own.2.put here (ap holders has) (ap holders has) refl refl (omega arith)
+            (λ _. refl) (subst (FitsTail (room_of setup) own.2.put own.2.taken (row_of s)) (sym has) fits)
+            (laid_full _ _ (row_of s) b.log own.2.put own.2.taken own.2.laid x call (ticket_of s) full) in (
               w,
               keeps,
               tt,
-              kept_seen setup s.words 2 (set s.views id w) r.0.0 (account_same setup n s.views id v w r.0.1 here refl refl)
-                  (booked n s.words log' (set s.views id w) (logged_more n b.log s.views id v w call (effect.Not x) b.logged here own.2.unknown refl refl refl
-                  (contains_some v.drawn call drew) (drawn_below setup n s.views id v call r.0.1 here drew)) (inl (own.0, inr (own.1, nodes)))),
-              (inl (same, n, refl), refl),
+              kept_seen setup s.words 2 (set s.views id w) r.0.0 (account_same setup (ticket_of s) s.views id v w r.0.1 here refl refl)
+                  (booked (ticket_of s) s.words log' (set s.views id w)
+                  (logged_more (ticket_of s) b.log s.views id v w call (effect.Not x) b.logged here own.2.unknown refl refl refl
+                  (contains_some v.drawn call drew) (drawn_below setup (ticket_of s) s.views id v call r.0.1 here drew)) (inl (own.0, inr (own.1, nodes)))),
+              (inl (same, ticket_of s, refl), refl),
             )
         by_found (inr other) =
             let v = me.0 in
@@ -290,20 +292,19 @@ module _ (setup : Setup) where
             let count = own.2.laid.count in
             let within = own.2.laid.within in
             let unstaged_here = (tail_of at seen room staged me.0.tail is).5 ∙ unstaged in
-            let nodes = nodes_at_tail _ _ row b.log s.views own.2 id v w row b.log own.2.put here (ap holders has) (ap holders now) refl refl (omega arith)
-            (λ _. refl) (subst (FitsTail (room_of setup) own.2.put own.2.taken row) (sym now) (
+            let nodes = nodes_at_tail _ _ (row_of s) b.log s.views own.2 id v w (row_of s) b.log own.2.put here (ap holders has) (ap holders now) refl refl (omega arith)
+            (λ _. refl) (subst (FitsTail (room_of setup) own.2.put own.2.taken (row_of s)) (sym now) (
               fits.0,
               fits.1,
               omega arith,
               omega arith,
-              subst (FitsStaged row (tail_at t.at own.2.taken t.room t.staged)) (sym unstaged_here) tt,
+              subst (FitsStaged (row_of s) (tail_at t.at own.2.taken t.room t.staged)) (sym unstaged_here) tt,
             )) own.2.laid in (
               w,
               keeps,
               tt,
-              kept_seen setup s.words 2 (set s.views id w) r.0.0 (account_same setup n s.views id v w r.0.1 here refl refl)
-                  (booked n s.words b.log (set s.views id w) (logged_same n n b.log s.views id v w (omega arith) b.logged here refl refl (λ e. e))
-                  (inl (own.0, inr (own.1, nodes)))),
+              kept_seen setup s.words 2 (set s.views id w) r.0.0 (account_same setup (ticket_of s) s.views id v w r.0.1 here refl refl)
+                  (booked_same (ticket_of s) s.words b.log s.views id v w b.logged here refl refl (λ e. e) (inl (own.0, inr (own.1, nodes)))),
               (inr (other, own.2.taken, found_is ∙ ap (λ (k : ℕ). position k own.2.taken) (sym same_room), refl), refl),
             )
 
@@ -411,18 +412,12 @@ module _ (setup : Setup) where
         → Allows (KeepsAccount setup) slots id me 1 (λ n. n) (λ found after. FindsOne call at me.0 found after.0 × (after.1 ≡ me.1))
     finds unknown drew s r _ here _ = by_found (cases_eq (get_or s.words 1 0) at)
       where
-        row : List ℕ
-        row = drop 1 s.words
-
-        n : ℕ
-        n = get_or s.words 0 0
-
-        own : (setup.is_shared ≡ false) × (setup.has_ring ≡ true) × AreNodes (initial_of setup) (room_of setup) row r.1.log s.views
+        own : (setup.is_shared ≡ false) × (setup.has_ring ≡ true) × AreNodes (initial_of setup) (room_of setup) (row_of s) r.1.log s.views
         own = ends_beside setup _ _ s.views r.1.nodes id me.0 here (let one = ap holders held in omega arith)
 
-        fits : FitsHead (room_of setup) own.2.put own.2.taken row (Some h)
-        fits = subst (FitsHead (room_of setup) own.2.put own.2.taken row) held
-            (at_place (λ k. FitsHead (room_of setup) own.2.put own.2.taken row k.head) s.views id me.0 here own.2.heads)
+        fits : FitsHead (room_of setup) own.2.put own.2.taken (row_of s) (Some h)
+        fits = subst (FitsHead (room_of setup) own.2.put own.2.taken (row_of s)) held
+            (at_place (λ k. FitsHead (room_of setup) own.2.put own.2.taken (row_of s) k.head) s.views id me.0 here own.2.heads)
 
         found_is : get_or s.words 1 0 ≡ position (room_of setup) own.2.put
         found_is = sym (get_or-drop 1 s.words 0 0) ∙ own.2.laid.ins
@@ -436,22 +431,23 @@ module _ (setup : Setup) where
             × (FindsOne call at me.0 (get_or s.words 1 0) w × (carried_after me.1 a ≡ me.1))
         by_found (inl same) =
             let v = me.0 in
-            let w = told call effect.Empty n v in
+            let w = told call effect.Empty (ticket_of s) v in
             let b = r.1 in
-            let log' = b.log ++ note_at call effect.Empty n ∷ [] in
+            let log' = b.log ++ note_at call effect.Empty (ticket_of s) ∷ [] in
             let count = own.2.laid.count in
             let within = own.2.laid.within in
             let none = same_position (room_of setup) own.2.taken own.2.put (omega arith) (omega arith) (sym at_is ∙ sym same ∙ found_is) in
-            let nodes = nodes_at_head _ _ row b.log s.views own.2 id v w row log' own.2.taken here (ap holders held) (ap holders held) refl refl (omega arith)
-            (λ _. refl) (subst (FitsHead (room_of setup) own.2.put own.2.taken row) (sym held) fits)
-            (laid_empty _ _ row b.log own.2.put own.2.taken own.2.laid call n (sym none)) in (
+            let nodes = nodes_at_head _ _ (row_of s) b.log s.views own.2 id v w (row_of s) log' own.2.taken here (ap holders held) (ap holders held) refl refl (omega arith)
+            (λ _. refl) (subst (FitsHead (room_of setup) own.2.put own.2.taken (row_of s)) (sym held) fits)
+            (laid_empty _ _ (row_of s) b.log own.2.put own.2.taken own.2.laid call (ticket_of s) (sym none)) in (
               w,
               keeps,
               tt,
-              kept_seen setup s.words 1 (set s.views id w) r.0.0 (account_same setup n s.views id v w r.0.1 here refl refl)
-                  (booked n s.words log' (set s.views id w) (logged_more n b.log s.views id v w call effect.Empty b.logged here own.2.unknown refl refl refl
-                  (contains_some v.drawn call drew) (drawn_below setup n s.views id v call r.0.1 here drew)) (inl (own.0, inr (own.1, nodes)))),
-              (inl (same, n, refl), refl),
+              kept_seen setup s.words 1 (set s.views id w) r.0.0 (account_same setup (ticket_of s) s.views id v w r.0.1 here refl refl)
+                  (booked (ticket_of s) s.words log' (set s.views id w)
+                  (logged_more (ticket_of s) b.log s.views id v w call effect.Empty b.logged here own.2.unknown refl refl refl
+                  (contains_some v.drawn call drew) (drawn_below setup (ticket_of s) s.views id v call r.0.1 here drew)) (inl (own.0, inr (own.1, nodes)))),
+              (inl (same, ticket_of s, refl), refl),
             )
         by_found (inr other) =
             let v = me.0 in
@@ -461,14 +457,13 @@ module _ (setup : Setup) where
             let count = own.2.laid.count in
             let below : own.2.taken < own.2.put = some_left own.2.put own.2.taken (length own.2.laid.queue) count
             (λ e. other (found_is ∙ ap (position (room_of setup)) e ∙ sym at_is)) in
-            let nodes = nodes_at_head _ _ row b.log s.views own.2 id v w row b.log own.2.taken here (ap holders held) (ap holders now) refl refl (omega arith)
-            (λ _. refl) (subst (FitsHead (room_of setup) own.2.put own.2.taken row) (sym now) (fits.0, fits.1, below)) own.2.laid in (
+            let nodes = nodes_at_head _ _ (row_of s) b.log s.views own.2 id v w (row_of s) b.log own.2.taken here (ap holders held) (ap holders now) refl refl (omega arith)
+            (λ _. refl) (subst (FitsHead (room_of setup) own.2.put own.2.taken (row_of s)) (sym now) (fits.0, fits.1, below)) own.2.laid in (
               w,
               keeps,
               tt,
-              kept_seen setup s.words 1 (set s.views id w) r.0.0 (account_same setup n s.views id v w r.0.1 here refl refl)
-                  (booked n s.words b.log (set s.views id w) (logged_same n n b.log s.views id v w (omega arith) b.logged here refl refl (λ e. e))
-                  (inl (own.0, inr (own.1, nodes)))),
+              kept_seen setup s.words 1 (set s.views id w) r.0.0 (account_same setup (ticket_of s) s.views id v w r.0.1 here refl refl)
+                  (booked_same (ticket_of s) s.words b.log s.views id v w b.logged here refl refl (λ e. e) (inl (own.0, inr (own.1, nodes)))),
               (inr (other, refl), refl),
             )
 
@@ -499,8 +494,7 @@ module _ (setup : Setup) where
           keeps,
           tt,
           kept_seen setup s.words (at + 3) (set s.views id w) r.0.0 (account_same setup n s.views id v w r.0.1 here refl refl)
-              (booked n s.words b.log (set s.views id w) (logged_same n n b.log s.views id v w (omega arith) b.logged here refl refl (λ e. e))
-              (inl (o.0, inr (o.1, nodes)))),
+              (booked_same n s.words b.log s.views id v w b.logged here refl refl (λ e. e) (inl (o.0, inr (o.1, nodes)))),
           refl,
         )
 

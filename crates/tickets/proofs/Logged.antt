@@ -101,6 +101,37 @@ known_is log h knows k = subst (λ (o : Option (List Note)). Knows log o → kno
 knower : (h : Holding) → knows_log h → knowers h.log ≡ 1
 knower h knows = ap knowers knows
 
+-- ---- whose notes the log holds
+
+-- a pass adds a note, and so does the log
+once_more : (whole : List Note) (views : List Holding) (i : ℕ) (v w : Holding) (note : Note) → IsPermutation (flat_map noted_of views) whole
+    → get_elem? views i ≡ some v → w.noted ≡ v.noted ++ note ∷ [] → IsPermutation (flat_map noted_of (set views i w)) (whole ++ note ∷ [])
+once_more whole views i v w note once at noted =
+    let apart = one_apart noted_of views i v at in
+    let all = flat_map noted_of views in
+    let after = flat_map noted_of (set views i w) in
+    let now = subst (λ (ns : List Note). IsPermutation after (ns ++ apart.others)) noted (apart.after w) in
+    let moved = subst (IsPermutation after) (append_assoc v.noted (note ∷ []) apart.others) now in
+    let first = IsPermutation-trans after (v.noted ++ note ∷ apart.others) (note ∷ (v.noted ++ apart.others)) moved (IsPermutation-middle v.noted note apart.others) in
+    let old = IsPermutation-trans (v.noted ++ apart.others) all whole (IsPermutation-sym all (v.noted ++ apart.others) apart.before) once in
+    let second = IsPermutation-trans after (note ∷ (v.noted ++ apart.others)) (note ∷ whole) first (IsPermutation-cons note (v.noted ++ apart.others) whole old) in
+    IsPermutation-trans after (note ∷ whole) (whole ++ note ∷ []) second (IsPermutation-sym (whole ++ note ∷ []) (note ∷ whole) (IsPermutation-to_front whole note))
+
+-- a pass takes the notes of another, which is left with none
+once_joined : (whole : List Note) (views : List Holding) (i j : ℕ) (v w m : Holding) → IsPermutation (flat_map noted_of views) whole
+    → get_elem? views i ≡ some v → get_elem? views j ≡ some w → j ≢ i → m.noted ≡ v.noted ++ w.noted
+    → IsPermutation (flat_map noted_of (set (set views i m) j (holding 0 [] []))) whole
+once_joined whole views i j v w m once at there apart noted =
+    let spent = holding 0 [] [] in
+    let after = flat_map noted_of (set (set views i m) j spent) in
+    let two = two_apart noted_of views i j v w at there apart in
+    let all = flat_map noted_of views in
+    let parts = subst (λ (ns : List Note). IsPermutation after (ns ++ two.others)) noted (two.after m spent) in
+    let joined = subst (IsPermutation after) (append_assoc v.noted w.noted two.others) parts in
+    IsPermutation-trans after all whole
+    (IsPermutation-trans after (v.noted ++ (w.noted ++ two.others)) all joined
+    (IsPermutation-sym all (v.noted ++ (w.noted ++ two.others)) two.before)) once
+
 -- ---- the steps
 
 -- the next ticket grows, or a pass changes and keeps its notes
@@ -177,17 +208,13 @@ logged_taken next whole views i j v log l at there apart none =
     let w = logging log in
     let m = with_log v w in
     let spent = holding 0 [] [] in
-    let after = set (set views i m) j spent in
-    let two = two_apart noted_of views i j v w at there apart in
-    let all = flat_map noted_of views in
     let first = knowers-set views i v m at in
     let second = knowers-set (set views i m) j w spent (set_else views i j m apart ∙ there) in
     let zero_is = ap knowers none in
     let one = l.one in
     let theirs : log ≡ whole = at_place (λ h. Knows whole h.log) views j w there l.known in
     record {
-      once = IsPermutation-trans (flat_map noted_of after) all whole
-          (IsPermutation-trans (flat_map noted_of after) (v.noted ++ two.others) all (two.after m spent) (IsPermutation-sym all (v.noted ++ two.others) two.before)) l.once;
+      once = once_joined whole views i j v w m l.once at there apart (sym (append-nil v.noted));
       known = All-set (λ (h : Holding). Knows whole h.log) (set views i m) j spent tt (All-set (λ (h : Holding). Knows whole h.log) views i m theirs l.known);
       one = omega arith;
       idle = All-set IsIdle (set views i m) j spent (λ _. refl) (All-set IsIdle views i m (at_place IsIdle views i v at l.idle) l.idle);
@@ -201,9 +228,6 @@ pub logged_joined : (next : ℕ) (whole : List Note) (views : List Holding) (i j
 logged_joined next whole views i j v w l at there apart none none' empty =
     let m = put_together v w in
     let spent = holding 0 [] [] in
-    let after = set (set views i m) j spent in
-    let two = two_apart noted_of views i j v w at there apart in
-    let all = flat_map noted_of views in
     let first = knowers-set views i v m at in
     let second = knowers-set (set views i m) j w spent (set_else views i j m apart ∙ there) in
     let zero_is = ap knowers none in
@@ -211,11 +235,8 @@ logged_joined next whole views i j v w l at there apart none none' empty =
     let both : either_log v.log w.log ≡ None = ap (λ (o : Option (List Note)). either_log o w.log) none ∙ none' in
     let zero_both = ap knowers both in
     let one = l.one in
-    let parts = subst (λ (ns : List Note). IsPermutation (flat_map noted_of after) ns) (append_assoc v.noted w.noted two.others) (two.after m spent) in
     record {
-      once = IsPermutation-trans (flat_map noted_of after) all whole
-          (IsPermutation-trans (flat_map noted_of after) (v.noted ++ (w.noted ++ two.others)) all parts
-          (IsPermutation-sym all (v.noted ++ (w.noted ++ two.others)) two.before)) l.once;
+      once = once_joined whole views i j v w m l.once at there apart refl;
       known = All-set (λ (h : Holding). Knows whole h.log) (set views i m) j spent tt
           (All-set (λ (h : Holding). Knows whole h.log) views i m (subst (Knows whole) (sym both) tt) l.known);
       one = omega arith;
@@ -232,20 +253,12 @@ pub logged_noted : (next : ℕ) (whole : List Note) (views : List Holding) (i : 
 logged_noted next whole views i v call effect l at knows drew above =
     let w = noting call effect next v in
     let note = note_at call effect next in
-    let apart = one_apart noted_of views i v at in
-    let all = flat_map noted_of views in
-    let after = flat_map noted_of (set views i w) in
     let sums = knowers-set views i v w at in
     let mine = knower v knows in
     let one = l.one in
     let is = known_is whole v knows (at_place (λ h. Knows whole h.log) views i v at l.known) in
-    let moved = subst (IsPermutation after) (append_assoc v.noted (note ∷ []) apart.others) (apart.after w) in
-    let first = IsPermutation-trans after (v.noted ++ note ∷ apart.others) (note ∷ (v.noted ++ apart.others)) moved (IsPermutation-middle v.noted note apart.others) in
-    let old = IsPermutation-trans (v.noted ++ apart.others) all whole (IsPermutation-sym all (v.noted ++ apart.others) apart.before) l.once in
-    let second = IsPermutation-trans after (note ∷ (v.noted ++ apart.others)) (note ∷ whole) first (IsPermutation-cons note (v.noted ++ apart.others) whole old) in
     record {
-      once = IsPermutation-trans after (note ∷ whole) (whole ++ note ∷ []) second
-          (IsPermutation-sym (whole ++ note ∷ []) (note ∷ whole) (IsPermutation-to_front whole note));
+      once = once_more whole views i v w note l.once at refl;
       known = one_knows (whole ++ note ∷ []) views i v w l.one at mine (ap (λ (ns : List Note). ns ++ note ∷ []) is);
       one = omega arith;
       idle = All-set IsIdle views i w (λ e. absurd (drew e)) l.idle;
@@ -269,20 +282,11 @@ pub logged_more : (next : ℕ) (whole : List Note) (views : List Holding) (i : �
     → call < next → IsLogged next (whole ++ note_at call effect next ∷ []) (set views i w)
 logged_more next whole views i v w call effect l at unknown noted same_log same_drawn drew above =
     let note = note_at call effect next in
-    let apart = one_apart noted_of views i v at in
-    let all = flat_map noted_of views in
-    let after = flat_map noted_of (set views i w) in
     let sums = knowers-set views i v w at in
     let theirs = ap knowers same_log in
     let one = l.one in
-    let now = subst (λ (ns : List Note). IsPermutation after (ns ++ apart.others)) noted (apart.after w) in
-    let moved = subst (IsPermutation after) (append_assoc v.noted (note ∷ []) apart.others) now in
-    let first = IsPermutation-trans after (v.noted ++ note ∷ apart.others) (note ∷ (v.noted ++ apart.others)) moved (IsPermutation-middle v.noted note apart.others) in
-    let old = IsPermutation-trans (v.noted ++ apart.others) all whole (IsPermutation-sym all (v.noted ++ apart.others) apart.before) l.once in
-    let second = IsPermutation-trans after (note ∷ (v.noted ++ apart.others)) (note ∷ whole) first (IsPermutation-cons note (v.noted ++ apart.others) whole old) in
     record {
-      once = IsPermutation-trans after (note ∷ whole) (whole ++ note ∷ []) second
-          (IsPermutation-sym (whole ++ note ∷ []) (note ∷ whole) (IsPermutation-to_front whole note));
+      once = once_more whole views i v w note l.once at noted;
       known = none_know (whole ++ note ∷ []) (set views i w) (omega arith);
       one = omega arith;
       idle = All-set IsIdle views i w (λ e. absurd (drew (sym same_drawn ∙ e))) l.idle;

@@ -172,12 +172,11 @@ module _ (initial : List ℕ) (room : ℕ) (row : List ℕ) (log : List Note) (p
           let place : taken + i ≡ put = omega arith in
           ap (λ (k : ℕ). get_or row (cell room k) 0) place ∙ staged ∙ sym (get_or_push laid.queue x 0 i last)
 
-  -- an enqueue finds the queue full
-  pub laid_full : (x call look : ℕ) → put ≡ taken + room → IsLaid initial room row (log ++ note_at call (effect.Not x) look ∷ []) put taken
-  laid_full x call look full = record {
+  -- a note of an operation that leaves the queue as it is
+  laid_noted : (n : Note) → bounded_after_one room laid.queue n.effect ≡ Some laid.queue → IsLaid initial room row (log ++ n ∷ []) put taken
+  laid_noted n same = record {
     queue = laid.queue;
-    legal = more_after (bounded_after_one room) initial log (note_at call (effect.Not x) look) laid.queue laid.queue laid.legal
-        (ap (λ (b : Bool). if b then Some laid.queue else None) (eq-eqb (length laid.queue) room (let count = laid.count in omega arith)));
+    legal = more_after (bounded_after_one room) initial log n laid.queue laid.queue laid.legal same;
     count = laid.count;
     within = laid.within;
     wide = laid.wide;
@@ -186,19 +185,14 @@ module _ (initial : List ℕ) (room : ℕ) (row : List ℕ) (log : List Note) (p
     lies = laid.lies;
   }
 
+  -- an enqueue finds the queue full
+  pub laid_full : (x call look : ℕ) → put ≡ taken + room → IsLaid initial room row (log ++ note_at call (effect.Not x) look ∷ []) put taken
+  laid_full x call look full = laid_noted (note_at call (effect.Not x) look)
+      (ap (λ (b : Bool). if b then Some laid.queue else None) (eq-eqb (length laid.queue) room (let count = laid.count in omega arith)))
+
   -- a dequeue finds the queue empty
   pub laid_empty : (call look : ℕ) → put ≡ taken → IsLaid initial room row (log ++ note_at call effect.Empty look ∷ []) put taken
-  laid_empty call look none = record {
-    queue = laid.queue;
-    legal = more_after (bounded_after_one room) initial log (note_at call effect.Empty look) laid.queue laid.queue laid.legal
-        (found_empty laid.queue laid.count);
-    count = laid.count;
-    within = laid.within;
-    wide = laid.wide;
-    ins = laid.ins;
-    outs = laid.outs;
-    lies = laid.lies;
-  }
+  laid_empty call look none = laid_noted (note_at call effect.Empty look) (found_empty laid.queue laid.count)
     where
       found_empty : (queue : List ℕ) → put ≡ taken + length queue → queue_after_one queue effect.Empty ≡ Some queue
       found_empty [] count = refl

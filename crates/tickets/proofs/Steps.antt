@@ -13,7 +13,7 @@ use Rattle.std.proofs.lemmas.List.Sums.{sum_by-cons, sum_by_push, sum_by-set, ge
 use Rattle.std.proofs.lemmas.List.Sorted.{IsPermutation-sym, IsPermutation-trans, IsPermutation-append_left}
 use Rattle.std.proofs.lemmas.List.Sorted.{IsPermutation-middle, IsPermutation-to_front}
 use Rattle.std.proofs.lemmas.List.Sorted.{IsPermutation-cons, length_permutation, All-permutation}
-use Rattle.atomic_table.specs.Table.{Me, keeps, stepped, Allows, Splits, Joins, Seen, Final}
+use Rattle.atomic_table.specs.Table.{State, Me, keeps, stepped, Allows, Splits, Joins, Seen, Final}
 use Rattle.atomic_table.proofs.Lists.{set_again, set_else}
 use Rattle.tickets.specs.declared.account.Holding.{Holding}
 use Rattle.tickets.specs.Account.{whole_of, IsAccount}
@@ -40,6 +40,23 @@ drawn_of h = h.drawn
 -- the number of tickets of a pass
 abbrev pub count_of : Holding → ℕ
 count_of h = length h.drawn
+
+-- the next ticket
+abbrev pub ticket_of : State (Unit {0}) Holding → ℕ
+ticket_of s = get_or s.words 0 0
+
+-- the words after the next ticket
+abbrev pub row_of : State (Unit {0}) Holding → List ℕ
+row_of s = drop 1 s.words
+
+-- a step that a caller chose is allowed if it follows from what an allowed step tells
+pub allows_play : (holds : State (Unit {0}) Holding → Type 0) (slots id : ℕ) (me : Me (Unit {0}) Holding) (word : ℕ) (f : ℕ → ℕ) (tells : ℕ → Holding → Type 0)
+    (then : ℕ → Me (Unit {0}) Holding → Type 0) → Allows holds slots id me word f (λ found after. tells found after.0 × (after.1 ≡ me.1))
+    → ((found : ℕ) (after : Holding) → tells found after → then found (after, me.1)) → Allows holds slots id me word f then
+allows_play holds slots id me word f tells then allowed follows s r long at small =
+    let x = allowed s r long at small in
+    let found = get_or s.words word 0 in
+    (x.0, x.1, x.2, x.3, subst (λ carried. then found (x.0, carried)) (sym x.4.1) (follows found x.0 x.4.0))
 
 -- ---- shares and counts
 

@@ -28,10 +28,10 @@ use Rattle.tickets.specs.Inner.Ring.{told}
 use Rattle.tickets.specs.Inner.Shared.{walk_at, walking, at_rest, value_of, FitsWalk, AreFilled, rights, AreShared, row_words}
 use Rattle.tickets.specs.Inner.Shared.{BeginsToPut, BeginsToTake, LinksAt, DeclinesAt, PeeksAt, ClaimsAt}
 use Rattle.tickets.proofs.Logged.{logged_same, logged_more, logged_all, at_place}
-use Rattle.tickets.proofs.Steps.{kept, kept_else, kept_seen, account_same, contains_some, drawn_below, first_word, others_idle}
+use Rattle.tickets.proofs.Steps.{ticket_of, row_of, kept, kept_else, kept_seen, account_same, contains_some, drawn_below, first_word, others_idle}
 use Rattle.tickets.proofs.Beside.{full_within, room_left, filled_pushed, filled_hinted, filled_declined, filled_empty, filled_taken}
 use Rattle.tickets.proofs.Beside.{walk_pushed, walk_taken, walk_hinted, full_more, shared_unknown, shared_step, shared_beside}
-use Rattle.tickets.proofs.Ends.{booked, opens_account, opens_log}
+use Rattle.tickets.proofs.Ends.{booked, booked_same, opens_account, opens_log}
 
 -- what holds of the call of a pass holds of each call that is equal to it
 any_walk : (P : Walk → Type 0) (k : Option Walk) (w : Walk) → k ≡ Some w → P w → (w' : Walk) → k ≡ Some w' → P w'
@@ -68,8 +68,7 @@ module _ (setup : Setup) (shared : setup.is_shared ≡ true) (slots id : ℕ) (m
         keeps,
         tt,
         kept_seen setup s.words 1 (set s.views id u) r.0.0 (account_same setup n s.views id v u r.0.1 here refl refl)
-            (booked setup n s.words b.log (set s.views id u) (logged_same n n b.log s.views id v u (omega arith) b.logged here refl refl (λ e. e))
-            (inr (shared, nodes))),
+            (booked_same setup n s.words b.log s.views id v u b.logged here refl refl (λ e. e) (inr (shared, nodes))),
         ((omega (arith, wide, is, within, hint, first), refl), refl),
       )
 
@@ -92,8 +91,7 @@ module _ (setup : Setup) (shared : setup.is_shared ≡ true) (slots id : ℕ) (m
         keeps,
         tt,
         kept_seen setup s.words 2 (set s.views id u) r.0.0 (account_same setup n s.views id v u r.0.1 here refl refl)
-            (booked setup n s.words b.log (set s.views id u) (logged_same n n b.log s.views id v u (omega arith) b.logged here refl refl (λ e. e))
-            (inr (shared, nodes))),
+            (booked_same setup n s.words b.log s.views id v u b.logged here refl refl (λ e. e) (inr (shared, nodes))),
         ((omega (arith, wide, is, within, second), refl), refl),
       )
 
@@ -108,63 +106,56 @@ module _ (setup : Setup) (shared : setup.is_shared ≡ true) (slots id : ℕ) (m
       v : Holding
       v = me.0
 
-      n : ℕ
-      n = get_or s.words 0 0
-
       found : ℕ
       found = get_or s.words (at + 3) 0
-
-      row : List ℕ
-      row = drop 1 s.words
 
       F : ℕ → Type 0
       F y = (u : Holding) × (a : Act (Unit {0})) × Valid s.homes me.1 a × KeepsAccount setup (stepped s (at + 3) y id me.1 u a)
           × (((w : Walk) → me.0.walk ≡ Some w → LinksAt w x me.0 found u) × (carried_after me.1 a ≡ me.1))
 
-      o : AreShared (initial_of setup) (room_of setup) row r.1.log s.views
+      o : AreShared (initial_of setup) (room_of setup) (row_of s) r.1.log s.views
       o = shared_beside setup _ _ s.views r.1.nodes shared
 
-      fits : FitsWalk row (Some (walk_at call room at (Put x)))
-      fits = subst (FitsWalk row) has (at_place (λ h. FitsWalk row h.walk) s.views id v here o.walks)
+      fits : FitsWalk (row_of s) (Some (walk_at call room at (Put x)))
+      fits = subst (FitsWalk (row_of s)) has (at_place (λ h. FitsWalk (row_of s) h.walk) s.views id v here o.walks)
 
-      same : get_or row (at + 2) 0 ≡ found
+      same : get_or (row_of s) (at + 2) 0 ≡ found
       same = get_or-drop 1 s.words (at + 2) 0 ∙ (let place : 1 + (at + 2) ≡ at + 3 = omega arith in ap (λ (k : ℕ). get_or s.words k 0) place)
 
-      left : at + 3 < length row
+      left : at + 3 < length (row_of s)
       left = omega (arith, fits.0, inside)
 
       hit : found ≡ NO_VALUE → F x
       hit e =
-          let u = walking (walk_at call room (at + 1) (Put x)) (told call (effect.Enq x) n v) in
-          let more = set row (at + 2) x in
-          let log' = r.1.log ++ note_at call (effect.Enq x) n ∷ [] in
-          let empty : get_or row (at + 2) 0 ≡ NO_VALUE = same ∙ e in
-          let long = length-set row (at + 2) x in
-          let later = walk_pushed row x at empty value (omega (arith, left)) in
-          let full : get_or more (at + 2) 0 ≢ NO_VALUE = λ bad. value (sym (get_or-set_same row (at + 2) x 0 (omega (arith, left))) ∙ bad) in
-          let nodes = shared_step _ _ row r.1.log s.views o id v u more log' here refl refl refl later
+          let u = walking (walk_at call room (at + 1) (Put x)) (told call (effect.Enq x) (ticket_of s) v) in
+          let more = set (row_of s) (at + 2) x in
+          let log' = r.1.log ++ note_at call (effect.Enq x) (ticket_of s) ∷ [] in
+          let empty : get_or (row_of s) (at + 2) 0 ≡ NO_VALUE = same ∙ e in
+          let long = length-set (row_of s) (at + 2) x in
+          let later = walk_pushed (row_of s) x at empty value (omega (arith, left)) in
+          let full : get_or more (at + 2) 0 ≢ NO_VALUE = λ bad. value (sym (get_or-set_same (row_of s) (at + 2) x 0 (omega (arith, left))) ∙ bad) in
+          let nodes = shared_step _ _ (row_of s) r.1.log s.views o id v u more log' here refl refl refl later
           (long ∙ fits.0, full_more more at (later (Some (walk_at call room at (Put x))) fits).1 full) long
-          (filled_pushed _ row r.1.log o.filled x call n at fits.1 empty value left) in (
+          (filled_pushed _ (row_of s) r.1.log o.filled x call (ticket_of s) at fits.1 empty value left) in (
             u,
             keeps,
             tt,
-            kept_else setup s.words (at + 3) (at + 2) x log' (set s.views id u) (omega arith) r.0.0 (account_same setup n s.views id v u r.0.1 here refl refl)
-                (logged_more n r.1.log s.views id v u call (effect.Enq x) r.1.logged here (shared_unknown _ _ row r.1.log s.views o) refl refl refl
-                (contains_some v.drawn call drew) (drawn_below setup n s.views id v call r.0.1 here drew)) (inr (shared, nodes)),
-            (any_walk (λ k. LinksAt k x v found u) v.walk (walk_at call room at (Put x)) has (inl (e, n, refl)), refl),
+            kept_else setup s.words (at + 3) (at + 2) x log' (set s.views id u) (omega arith) r.0.0 (account_same setup (ticket_of s) s.views id v u r.0.1 here refl refl)
+                (logged_more (ticket_of s) r.1.log s.views id v u call (effect.Enq x) r.1.logged here (shared_unknown _ _ (row_of s) r.1.log s.views o) refl refl refl
+                (contains_some v.drawn call drew) (drawn_below setup (ticket_of s) s.views id v call r.0.1 here drew)) (inr (shared, nodes)),
+            (any_walk (λ k. LinksAt k x v found u) v.walk (walk_at call room at (Put x)) has (inl (e, ticket_of s, refl)), refl),
           )
 
       miss : found ≢ NO_VALUE → F found
       miss ne =
           let u = walking (walk_at call room (at + 1) (Put x)) v in
-          let nodes = shared_step _ _ row r.1.log s.views o id v u row r.1.log here refl refl refl (λ _ f. f)
-          (fits.0, full_more row at fits.1 (λ bad. ne (sym same ∙ bad))) refl o.filled in (
+          let nodes = shared_step _ _ (row_of s) r.1.log s.views o id v u (row_of s) r.1.log here refl refl refl (λ _ f. f)
+          (fits.0, full_more (row_of s) at fits.1 (λ bad. ne (sym same ∙ bad))) refl o.filled in (
             u,
             keeps,
             tt,
-            kept_seen setup s.words (at + 3) (set s.views id u) r.0.0 (account_same setup n s.views id v u r.0.1 here refl refl)
-                (booked setup n s.words r.1.log (set s.views id u) (logged_same n n r.1.log s.views id v u (omega arith) r.1.logged here refl refl (λ e. e))
-                (inr (shared, nodes))),
+            kept_seen setup s.words (at + 3) (set s.views id u) r.0.0 (account_same setup (ticket_of s) s.views id v u r.0.1 here refl refl)
+                (booked_same setup (ticket_of s) s.words r.1.log s.views id v u r.1.logged here refl refl (λ e. e) (inr (shared, nodes))),
             (any_walk (λ k. LinksAt k x v found u) v.walk (walk_at call room at (Put x)) has (inr (ne, refl)), refl),
           )
 
@@ -222,8 +213,7 @@ module _ (setup : Setup) (shared : setup.is_shared ≡ true) (slots id : ℕ) (m
             keeps,
             tt,
             kept_seen setup s.words 1 (set s.views id u) r.0.0 (account_same setup n s.views id v u r.0.1 here refl refl)
-                (booked setup n s.words r.1.log (set s.views id u) (logged_same n n r.1.log s.views id v u (omega arith) r.1.logged here refl refl (λ e. e))
-                (inr (shared, nodes))),
+                (booked_same setup n s.words r.1.log s.views id v u r.1.logged here refl refl (λ e. e) (inr (shared, nodes))),
             refl,
           )
 
@@ -261,51 +251,44 @@ module _ (setup : Setup) (shared : setup.is_shared ≡ true) (slots id : ℕ) (m
       v : Holding
       v = me.0
 
-      n : ℕ
-      n = get_or s.words 0 0
-
       found : ℕ
       found = get_or s.words (at + 3) 0
 
-      row : List ℕ
-      row = drop 1 s.words
-
-      o : AreShared (initial_of setup) (room_of setup) row r.1.log s.views
+      o : AreShared (initial_of setup) (room_of setup) (row_of s) r.1.log s.views
       o = shared_beside setup _ _ s.views r.1.nodes shared
 
-      fits : FitsWalk row (Some (walk_at call room at Find))
-      fits = subst (FitsWalk row) has (at_place (λ h. FitsWalk row h.walk) s.views id v here o.walks)
+      fits : FitsWalk (row_of s) (Some (walk_at call room at Find))
+      fits = subst (FitsWalk (row_of s)) has (at_place (λ h. FitsWalk (row_of s) h.walk) s.views id v here o.walks)
 
-      same : get_or row (at + 2) 0 ≡ found
+      same : get_or (row_of s) (at + 2) 0 ≡ found
       same = get_or-drop 1 s.words (at + 2) 0 ∙ (let place : 1 + (at + 2) ≡ at + 3 = omega arith in ap (λ (k : ℕ). get_or s.words k 0) place)
 
       by_value : (found ≡ NO_VALUE) ⊎ (found ≢ NO_VALUE)
           → (u : Holding) × (a : Act (Unit {0})) × Valid s.homes me.1 a × KeepsAccount setup (stepped s (at + 3) found id me.1 u a)
           × (((w : Walk) → me.0.walk ≡ Some w → PeeksAt w me.0 found u) × (carried_after me.1 a ≡ me.1))
       by_value (inl e) =
-          let u = at_rest (told call effect.Empty n v) in
-          let log' = r.1.log ++ note_at call effect.Empty n ∷ [] in
-          let nodes = shared_step _ _ row r.1.log s.views o id v u row log' here refl refl refl (λ _ f. f) tt refl
-          (filled_empty _ row r.1.log o.filled call n at fits.1 (same ∙ e)) in (
+          let u = at_rest (told call effect.Empty (ticket_of s) v) in
+          let log' = r.1.log ++ note_at call effect.Empty (ticket_of s) ∷ [] in
+          let nodes = shared_step _ _ (row_of s) r.1.log s.views o id v u (row_of s) log' here refl refl refl (λ _ f. f) tt refl
+          (filled_empty _ (row_of s) r.1.log o.filled call (ticket_of s) at fits.1 (same ∙ e)) in (
             u,
             keeps,
             tt,
-            kept_seen setup s.words (at + 3) (set s.views id u) r.0.0 (account_same setup n s.views id v u r.0.1 here refl refl)
-                (booked setup n s.words log' (set s.views id u) (logged_more n r.1.log s.views id v u call effect.Empty r.1.logged here
-                (shared_unknown _ _ row r.1.log s.views o) refl refl refl
-                (contains_some v.drawn call drew) (drawn_below setup n s.views id v call r.0.1 here drew)) (inr (shared, nodes))),
-            (any_walk (λ k. PeeksAt k v found u) v.walk (walk_at call room at Find) has (inl (e, n, refl)), refl),
+            kept_seen setup s.words (at + 3) (set s.views id u) r.0.0 (account_same setup (ticket_of s) s.views id v u r.0.1 here refl refl)
+                (booked setup (ticket_of s) s.words log' (set s.views id u) (logged_more (ticket_of s) r.1.log s.views id v u call effect.Empty r.1.logged here
+                (shared_unknown _ _ (row_of s) r.1.log s.views o) refl refl refl
+                (contains_some v.drawn call drew) (drawn_below setup (ticket_of s) s.views id v call r.0.1 here drew)) (inr (shared, nodes))),
+            (any_walk (λ k. PeeksAt k v found u) v.walk (walk_at call room at Find) has (inl (e, ticket_of s, refl)), refl),
           )
       by_value (inr ne) =
           let u = walking (walk_at call room at (Read found)) v in
-          let nodes = shared_step _ _ row r.1.log s.views o id v u row r.1.log here refl refl refl (λ _ f. f)
+          let nodes = shared_step _ _ (row_of s) r.1.log s.views o id v u (row_of s) r.1.log here refl refl refl (λ _ f. f)
           (fits.0, (fits.1, same, ne)) refl o.filled in (
             u,
             keeps,
             tt,
-            kept_seen setup s.words (at + 3) (set s.views id u) r.0.0 (account_same setup n s.views id v u r.0.1 here refl refl)
-                (booked setup n s.words r.1.log (set s.views id u) (logged_same n n r.1.log s.views id v u (omega arith) r.1.logged here refl refl (λ e. e))
-                (inr (shared, nodes))),
+            kept_seen setup s.words (at + 3) (set s.views id u) r.0.0 (account_same setup (ticket_of s) s.views id v u r.0.1 here refl refl)
+                (booked_same setup (ticket_of s) s.words r.1.log s.views id v u r.1.logged here refl refl (λ e. e) (inr (shared, nodes))),
             (any_walk (λ k. PeeksAt k v found u) v.walk (walk_at call room at Find) has (inr (ne, refl)), refl),
           )
 
@@ -318,44 +301,39 @@ module _ (setup : Setup) (shared : setup.is_shared ≡ true) (slots id : ℕ) (m
       v : Holding
       v = me.0
 
-      n : ℕ
-      n = get_or s.words 0 0
-
       found : ℕ
       found = get_or s.words 2 0
-
-      row : List ℕ
-      row = drop 1 s.words
 
       F : ℕ → Type 0
       F y = (u : Holding) × (a : Act (Unit {0})) × Valid s.homes me.1 a × KeepsAccount setup (stepped s 2 y id me.1 u a)
           × (((w : Walk) → me.0.walk ≡ Some w → ClaimsAt w me.0 found u) × (carried_after me.1 a ≡ me.1))
 
-      o : AreShared (initial_of setup) (room_of setup) row r.1.log s.views
+      o : AreShared (initial_of setup) (room_of setup) (row_of s) r.1.log s.views
       o = shared_beside setup _ _ s.views r.1.nodes shared
 
-      fits : FitsWalk row (Some (walk_at call room at (Read x)))
-      fits = subst (FitsWalk row) has (at_place (λ h. FitsWalk row h.walk) s.views id v here o.walks)
+      fits : FitsWalk (row_of s) (Some (walk_at call room at (Read x)))
+      fits = subst (FitsWalk (row_of s)) has (at_place (λ h. FitsWalk (row_of s) h.walk) s.views id v here o.walks)
 
-      second : get_or row 1 0 ≡ found
+      second : get_or (row_of s) 1 0 ≡ found
       second = get_or-drop 1 s.words 1 0
 
       hit : found ≡ at → F (at + 1)
       hit e =
-          let u = at_rest (told call (effect.Deq x) n v) in
-          let more = set row 1 (at + 1) in
-          let log' = r.1.log ++ note_at call (effect.Deq x) n ∷ [] in
-          let first : at ≡ get_or row 1 0 = sym (second ∙ e) in
+          let u = at_rest (told call (effect.Deq x) (ticket_of s) v) in
+          let more = set (row_of s) 1 (at + 1) in
+          let log' = r.1.log ++ note_at call (effect.Deq x) (ticket_of s) ∷ [] in
+          let first : at ≡ get_or (row_of s) 1 0 = sym (second ∙ e) in
           let within = o.filled.within in
-          let nodes = shared_step _ _ row r.1.log s.views o id v u more log' here refl refl refl (walk_taken row at first (omega arith)) tt (length-set row 1 (at + 1))
-          (filled_taken _ row r.1.log o.filled call n x at first fits.1.1 fits.1.2) in (
+          let nodes = shared_step _ _ (row_of s) r.1.log s.views o id v u more log' here refl refl refl
+          (walk_taken (row_of s) at first (omega arith)) tt (length-set (row_of s) 1 (at + 1))
+          (filled_taken _ (row_of s) r.1.log o.filled call (ticket_of s) x at first fits.1.1 fits.1.2) in (
             u,
             keeps,
             tt,
-            kept_else setup s.words 2 1 (at + 1) log' (set s.views id u) refl r.0.0 (account_same setup n s.views id v u r.0.1 here refl refl)
-                (logged_more n r.1.log s.views id v u call (effect.Deq x) r.1.logged here (shared_unknown _ _ row r.1.log s.views o) refl refl refl
-                (contains_some v.drawn call drew) (drawn_below setup n s.views id v call r.0.1 here drew)) (inr (shared, nodes)),
-            (any_walk (λ k. ClaimsAt k v found u) v.walk (walk_at call room at (Read x)) has (inl (e, n, refl)), refl),
+            kept_else setup s.words 2 1 (at + 1) log' (set s.views id u) refl r.0.0 (account_same setup (ticket_of s) s.views id v u r.0.1 here refl refl)
+                (logged_more (ticket_of s) r.1.log s.views id v u call (effect.Deq x) r.1.logged here (shared_unknown _ _ (row_of s) r.1.log s.views o) refl refl refl
+                (contains_some v.drawn call drew) (drawn_below setup (ticket_of s) s.views id v call r.0.1 here drew)) (inr (shared, nodes)),
+            (any_walk (λ k. ClaimsAt k v found u) v.walk (walk_at call room at (Read x)) has (inl (e, ticket_of s, refl)), refl),
           )
 
       miss : found ≢ at → F found
@@ -364,14 +342,13 @@ module _ (setup : Setup) (shared : setup.is_shared ≡ true) (slots id : ℕ) (m
           let within = o.filled.within in
           let low = fits.1.0 in
           let wide = fits.0 in
-          let nodes = shared_step _ _ row r.1.log s.views o id v u row r.1.log here refl refl refl (λ _ f. f)
+          let nodes = shared_step _ _ (row_of s) r.1.log s.views o id v u (row_of s) r.1.log here refl refl refl (λ _ f. f)
           (fits.0, omega (arith, second)) refl o.filled in (
             u,
             keeps,
             tt,
-            kept_seen setup s.words 2 (set s.views id u) r.0.0 (account_same setup n s.views id v u r.0.1 here refl refl)
-                (booked setup n s.words r.1.log (set s.views id u) (logged_same n n r.1.log s.views id v u (omega arith) r.1.logged here refl refl (λ e. e))
-                (inr (shared, nodes))),
+            kept_seen setup s.words 2 (set s.views id u) r.0.0 (account_same setup (ticket_of s) s.views id v u r.0.1 here refl refl)
+                (booked_same setup (ticket_of s) s.words r.1.log s.views id v u r.1.logged here refl refl (λ e. e) (inr (shared, nodes))),
             (
               any_walk (λ k. ClaimsAt k v found u) v.walk (walk_at call room at (Read x)) has
                   (inr (ne, less_than at found (omega (arith, low, second)) ne, omega (arith, within, wide, second), refl)),

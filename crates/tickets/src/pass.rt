@@ -63,6 +63,18 @@ impl Pass {
     ghost use Rattle.tickets.specs.Views.{share_of, fresh_pass, DrawsOne};
     ghost use Rattle.tickets.specs.Inner.Account.{holding};
 
+    // Makes the pass of a seat that has this share, and has drawn and noted nothing.
+    pub(crate) fn of_seat(seat: Seat<(), Holding>, share: u64) -> Pass
+        requires { seat.me ≡ (holding share [] [], []) }
+        ensures { result ≡ fresh_pass seat.table_id share }
+    {
+        Pass {
+            seat,
+            share,
+            left: share,
+        }
+    }
+
     // Returns the pass's seat, its share, and the number of tickets that it may still draw.
     pub(crate) fn into_parts(self) -> (Seat<(), Holding>, u64, u64)
         ensures key { result.0.table_id ≡ self.key }
@@ -118,12 +130,7 @@ impl Pass {
             share: share - n,
             left: left - n,
         };
-        let second = Pass {
-            seat: cut,
-            share: n,
-            left: n,
-        };
-        (first, second)
+        (first, Pass::of_seat(cut, n))
     }
 
     /// Joins two passes: adds their shares, and puts their tickets and notes together. It takes no memory.

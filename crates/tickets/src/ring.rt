@@ -10,7 +10,7 @@ ghost use Rattle.atomic_table.specs.Table.{Step};
 ghost use Rattle.tickets.specs.declared.TheConstants.{TICKET_LIMIT};
 ghost use Rattle.tickets.specs.declared.account.Holding.{Holding};
 ghost use Rattle.tickets.specs.declared.account.Next.TheVariants.{Unknown, There, Holds};
-ghost use Rattle.tickets.specs.Inner.Ring.{ends, position, IsTailAt, IsHeadAt, stages, reads};
+ghost use Rattle.tickets.specs.Inner.Ring.{ends, with_ends, position, IsTailAt, IsHeadAt, stages, reads};
 ghost use Rattle.tickets.specs.Inner.Ring.{Glances, Publishes, HasRoom, FindsOne, Frees, PutsOne, TakesOne};
 
 use crate::account::{EndsApart, Holding, Reads, Stages, TakesEnds};
@@ -315,6 +315,19 @@ fn take_on(
     (Some(value), HeadPlace { at, room })
 }
 
+// Gives the ends that a seat has, and nothing else, to another seat, which has none.
+fn lend_ends(tickets: &Tickets, from: &mut Seat<(), Holding>, to: &mut Seat<(), Holding>)
+    requires key { (from.old.table_id ≡ tickets.now.key) × (to.old.table_id ≡ tickets.now.key) }
+    requires carried { from.old.me.1 ≡ [] }
+    requires apart { (to.old.me.0.tail ≡ None) × (to.old.me.0.head ≡ None) }
+    ensures key { (from.new.table_id ≡ tickets.now.key) × (to.new.table_id ≡ tickets.now.key) }
+    ensures lent { to.new.me ≡ (with_ends to.old.me.0 from.old.me.0, to.old.me.1) }
+{
+    let table = &tickets.table.shared;
+    let right = table.split_seat::<EndsApart>(from);
+    table.join_seat::<TakesEnds>(to, right);
+}
+
 impl Pass {
     ghost use Rattle.std.specs.Prelude.{◌≡◌, ◌≤◌, [], ◌∷◌, ◌++◌, ℕ, Contains};
     ghost use Rattle.tickets.specs.Log.{note_at};
@@ -334,11 +347,9 @@ impl Pass {
             }) }
         ensures same { end.new ≡ end.old }
     {
-        let table = &tickets.table.shared;
-        let right = table.split_seat::<EndsApart>(&mut end.seat);
-        table.join_seat::<TakesEnds>(&mut self.seat, right);
+        lend_ends(tickets, &mut end.seat, &mut self.seat);
         let (put, place) = put_on(tickets, &mut self.seat, end.place, call, value);
-        end.seat = table.split_seat::<EndsApart>(&mut self.seat);
+        end.seat = tickets.table.shared.split_seat::<EndsApart>(&mut self.seat);
         end.place = place;
         put
     }
@@ -357,11 +368,9 @@ impl Pass {
             }) }
         ensures same { end.new ≡ end.old }
     {
-        let table = &tickets.table.shared;
-        let right = table.split_seat::<EndsApart>(&mut end.seat);
-        table.join_seat::<TakesEnds>(&mut self.seat, right);
+        lend_ends(tickets, &mut end.seat, &mut self.seat);
         let (taken, place) = take_on(tickets, &mut self.seat, end.place, call);
-        end.seat = table.split_seat::<EndsApart>(&mut self.seat);
+        end.seat = tickets.table.shared.split_seat::<EndsApart>(&mut self.seat);
         end.place = place;
         taken
     }

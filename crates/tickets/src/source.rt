@@ -92,11 +92,7 @@ impl Tickets {
         let log = table.shared.split_seat::<LogApart>(&mut seat);
         Ok((
             Tickets { table, room: 0 },
-            Pass {
-                seat,
-                share: budget,
-                left: budget,
-            },
+            Pass::of_seat(seat, budget),
             Log::of_seat(log),
         ))
     }
@@ -135,11 +131,7 @@ impl Tickets {
         let head = table.shared.split_seat::<HeadApart>(&mut ends);
         Ok((
             Tickets { table, room },
-            Pass {
-                seat,
-                share: budget,
-                left: budget,
-            },
+            Pass::of_seat(seat, budget),
             TailEnd::of_seat(ends, initial.len(), room),
             HeadEnd::of_seat(head, room),
         ))
@@ -173,14 +165,7 @@ impl Tickets {
             words: Snapshot::of(&words),
         };
         let (table, seat) = Table::of_words(alloc, words.as_slice(), &setup)?;
-        Ok((
-            Tickets { table, room },
-            Pass {
-                seat,
-                share: budget,
-                left: budget,
-            },
-        ))
+        Ok((Tickets { table, room }, Pass::of_seat(seat, budget)))
     }
 
     /// Closes the word, and returns the number of tickets that were drawn.

@@ -1,7 +1,7 @@
 //! Claims under weaker conditions.
 
 use super::small_histories::{
-    EACH_OVERTAKES, INITIAL_LAST, NOT_EMPTY, OVERTAKING, Row, history_behind,
+    EACH_OVERTAKES, INITIAL_LAST, NOT_EMPTY, OVERTAKING, Row, history_of,
 };
 use conditions::{Emptiness, decide_local, verify_local, verify_weakly_empty};
 use history_merge::Operation;
@@ -13,12 +13,13 @@ use verdicts::{ClaimLine, ClaimLines, Claimed, Lines, Verdict, ViolationKind, ve
 fn operations_at(alloc: Global, rows: &[Row], places: &[usize]) -> Result<Vec<Operation>, Fail> {
     let mut found = Vec::new(alloc);
     for place in places {
-        let Some((call, ret, thread, kind)) = rows.get(*place) else {
+        let Some((thread, kind)) = rows.get(*place) else {
             return Err("no row at a place")?;
         };
+        let call = 2 * *place as u64;
         found.push(Operation {
-            call: *call,
-            ret: *ret,
+            call,
+            ret: call + 1,
             thread: *thread,
             kind: *kind,
         })?;
@@ -96,7 +97,7 @@ static CLAIMS: [Case; 19] = [
 fn verifies_under_weaker_conditions(rt: HostRuntime) -> Result<(), Fail> {
     let alloc = rt.alloc();
     for (initial, rows, local, kind, places, is_evidence) in &CLAIMS {
-        let history = history_behind(alloc, initial, rows)?;
+        let history = history_of(alloc, initial, rows)?;
         let claimed = claim_at(alloc, rows, *kind, places)?;
         let valid = match local {
             Some(emptiness) => verify_local(alloc, &history, *emptiness, &claimed)?,
@@ -109,7 +110,7 @@ fn verifies_under_weaker_conditions(rt: HostRuntime) -> Result<(), Fail> {
 
 /// Returns the places of a local verdict's linearizations, one after another, or none for a `NO`.
 fn joined(alloc: Global, initial: &[u64], rows: &[Row]) -> Result<Vec<usize>, Fail> {
-    let history = history_behind(alloc, initial, rows)?;
+    let history = history_of(alloc, initial, rows)?;
     let verdict = decide_local(alloc, &history, Emptiness::Strict)?.into_verdict(alloc)?;
     let mut places = Vec::new(alloc);
     if let Verdict::Yes(order) = verdict {
@@ -141,7 +142,7 @@ fn joins_the_linearizations_of_a_local_verdict(rt: HostRuntime) -> Result<(), Fa
 #[test]
 fn a_local_no_is_evidence_in_the_whole(rt: HostRuntime) -> Result<(), Fail> {
     let alloc = rt.alloc();
-    let history = history_behind(alloc, &[], EACH_OVERTAKES)?;
+    let history = history_of(alloc, &[], EACH_OVERTAKES)?;
     let claimed = claim_at(alloc, EACH_OVERTAKES, ORDER, &[3, 4, 6, 7])?;
     assert!(rt; verify(alloc, &history, &claimed)?);
     Ok(())

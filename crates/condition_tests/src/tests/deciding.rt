@@ -2,14 +2,14 @@
 
 use super::small_histories::{
     EACH_OVERTAKES, FAILED, INITIAL_LAST, INITIAL_SWAPPED, NEVER_ENQUEUED, NOT_EMPTY, OVERTAKING,
-    Row, history_behind,
+    Row, history_of,
 };
 use conditions::{
-    Emptiness, LocalVerdict, Producer, decide_local, decide_local_par, decide_weakly_empty,
-    decide_weakly_empty_par,
+    Emptiness, LocalVerdict, Producer, decide_local, decide_local_by, decide_weakly_empty,
+    decide_weakly_empty_by,
 };
 use history_merge::{History, OpId};
-use parallel_finders::MAX_PIECES;
+use parallel_finders::{InPieces, MAX_PIECES};
 use std::alloc::{AllocError, Global};
 use std::test::Fail;
 use std::thread::Threads;
@@ -127,7 +127,7 @@ fn local_verdict<R: AllocGlobal + Threads + Sync>(
     pieces: usize,
 ) -> Result<LocalVerdict, AllocError> {
     match pieces {
-        1..=MAX_PIECES => decide_local_par(rt, rt.alloc(), history, emptiness, pieces),
+        1..=MAX_PIECES => decide_local_by(&InPieces { rt, pieces }, rt.alloc(), history, emptiness),
         _ => decide_local(rt.alloc(), history, emptiness),
     }
 }
@@ -140,7 +140,7 @@ fn weak_verdict<R: AllocGlobal + Threads + Sync>(
     pieces: usize,
 ) -> Result<Verdict, AllocError> {
     match pieces {
-        1..=MAX_PIECES => decide_weakly_empty_par(rt, rt.alloc(), history, pieces),
+        1..=MAX_PIECES => decide_weakly_empty_by(&InPieces { rt, pieces }, rt.alloc(), history),
         _ => decide_weakly_empty(rt.alloc(), history),
     }
 }
@@ -153,7 +153,7 @@ fn said<R: AllocGlobal + Threads + Sync>(
     local: Option<Emptiness>,
     pieces: usize,
 ) -> Result<Vec<usize>, Fail> {
-    let history = history_behind(rt.alloc(), initial, rows)?;
+    let history = history_of(rt.alloc(), initial, rows)?;
     let mut numbers = Vec::new(rt.alloc());
     match local {
         Some(emptiness) => tell_local(
@@ -251,7 +251,7 @@ fn is_evidence(alloc: Global, history: &History) -> Result<bool, AllocError> {
 
 #[test]
 fn a_violation_is_one_of_the_whole_history(rt: HostRuntime) -> Result<(), Fail> {
-    let history = history_behind(rt.alloc(), &[], EACH_OVERTAKES)?;
+    let history = history_of(rt.alloc(), &[], EACH_OVERTAKES)?;
     assert!(rt; is_evidence(rt.alloc(), &history)?);
     Ok(())
 }

@@ -1,6 +1,6 @@
 //! The operations of a selection.
 
-use super::small_histories::{INITIAL_LAST, NEVER_ENQUEUED, OVERTAKING, Row, history_behind};
+use super::small_histories::{INITIAL_LAST, NEVER_ENQUEUED, OVERTAKING, Row, history_of};
 use conditions::{Emptiness, Producer, selection, without_empties};
 use history_merge::History;
 use std::alloc::{AllocError, Global};
@@ -21,7 +21,7 @@ fn shown(alloc: Global, history: &History) -> Result<Vec<u64>, AllocError> {
 type Wanted = Option<(Producer, Emptiness)>;
 
 fn selected(alloc: Global, rows: &[Row], wanted: Wanted) -> Result<Vec<u64>, Fail> {
-    let history = history_behind(alloc, &[3], rows)?;
+    let history = history_of(alloc, &[3], rows)?;
     let part = match wanted {
         Some((producer, emptiness)) => selection(alloc, &history, producer, emptiness)?,
         None => without_empties(alloc, &history)?,

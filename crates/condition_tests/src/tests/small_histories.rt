@@ -6,89 +6,78 @@ use history_merge::{History, OpKind, history_from};
 use std::alloc::{AllocError, Global};
 use std::test::Fail;
 
-/// An operation: the tickets of its call and its return, its thread, and its kind.
-pub(crate) type Row = (u64, u64, u8, OpKind);
+/// An operation: its thread, and its kind. Each operation returns before the next one of a list is called.
+pub(crate) type Row = (u8, OpKind);
 
 /// The values of two threads overtake each other, but no thread's own values do. The history has a `VOrd`, but is
 /// locally linearizable.
 pub(crate) const OVERTAKING: &[Row] = &[
-    (0, 1, 0, Enqueue(7)),
-    (2, 3, 1, Enqueue(9)),
-    (4, 5, 2, Dequeue(9)),
-    (6, 7, 2, Dequeue(7)),
+    (0, Enqueue(7)),
+    (1, Enqueue(9)),
+    (2, Dequeue(9)),
+    (2, Dequeue(7)),
 ];
 
 /// Thread 2 enqueues 7 and then 8, and thread 1 enqueues 5 and then 6. The second value of each is dequeued first.
 pub(crate) const EACH_OVERTAKES: &[Row] = &[
-    (0, 1, 0, Enqueue(1)),
-    (2, 3, 2, Enqueue(7)),
-    (4, 5, 2, Enqueue(8)),
-    (6, 7, 1, Enqueue(5)),
-    (8, 9, 1, Enqueue(6)),
-    (10, 11, 0, Dequeue(8)),
-    (12, 13, 0, Dequeue(6)),
-    (14, 15, 3, Dequeue(5)),
+    (0, Enqueue(1)),
+    (2, Enqueue(7)),
+    (2, Enqueue(8)),
+    (1, Enqueue(5)),
+    (1, Enqueue(6)),
+    (0, Dequeue(8)),
+    (0, Dequeue(6)),
+    (3, Dequeue(5)),
 ];
 
 /// A dequeue finds the queue empty, though 7 is in it.
-pub(crate) const NOT_EMPTY: &[Row] = &[(0, 1, 0, Enqueue(7)), (2, 3, 1, DequeueEmpty)];
+pub(crate) const NOT_EMPTY: &[Row] = &[(0, Enqueue(7)), (1, DequeueEmpty)];
 
 /// A dequeue of a value that nobody enqueued.
-pub(crate) const NEVER_ENQUEUED: &[Row] = &[(0, 1, 0, Enqueue(7)), (2, 3, 1, Dequeue(9))];
+pub(crate) const NEVER_ENQUEUED: &[Row] = &[(0, Enqueue(7)), (1, Dequeue(9))];
 
 /// A dequeue of a value whose enqueue failed.
-pub(crate) const FAILED: &[Row] = &[(0, 1, 5, EnqueueFailed(7)), (2, 3, 1, Dequeue(7))];
+pub(crate) const FAILED: &[Row] = &[(5, EnqueueFailed(7)), (1, Dequeue(7))];
 
 /// The initial value is dequeued after one that was enqueued later.
 pub(crate) const INITIAL_LAST: &[Row] = &[
-    (0, 1, 0, Enqueue(7)),
-    (2, 3, 1, Dequeue(7)),
-    (4, 5, 1, Dequeue(3)),
-    (6, 7, 1, DequeueEmpty),
+    (0, Enqueue(7)),
+    (1, Dequeue(7)),
+    (1, Dequeue(3)),
+    (1, DequeueEmpty),
 ];
 
 /// The second initial value is dequeued first.
-pub(crate) const INITIAL_SWAPPED: &[Row] = &[
-    (0, 1, 0, Enqueue(7)),
-    (2, 3, 0, Dequeue(4)),
-    (4, 5, 0, Dequeue(3)),
-];
+pub(crate) const INITIAL_SWAPPED: &[Row] = &[(0, Enqueue(7)), (0, Dequeue(4)), (0, Dequeue(3))];
 
-/// Returns the call and the return of an operation.
-fn told(kind: OpKind) -> (What, What) {
-    match kind {
+/// Adds the call and the return of an operation, with the next two tickets.
+fn push_operation(events: &mut Vec<Event>, (thread, kind): Row) -> Result<(), AllocError> {
+    let (called, answered) = match kind {
         Enqueue(value) => (What::CallEnq(value), What::RetEnq),
         EnqueueFailed(value) => (What::CallEnq(value), What::RetNot),
         Dequeue(value) => (What::CallDeq, What::RetDeq(value)),
         DequeueEmpty => (What::CallDeq, What::RetEmpty),
+    };
+    for what in [called, answered] {
+        let ticket = events.len() as u64;
+        events.push(Event {
+            ticket,
+            thread,
+            what,
+        })?;
     }
-}
-
-/// Returns the events of these operations, each of which returns before the next is called.
-fn events_of(alloc: Global, rows: &[Row]) -> Result<Vec<Event>, AllocError> {
-    let mut events = Vec::new(alloc);
-    for (call, ret, thread, kind) in rows {
-        let (called, answered) = told(*kind);
-        for (ticket, what) in [(*call, called), (*ret, answered)] {
-            events.push(Event {
-                ticket,
-                thread: *thread,
-                what,
-            })?;
-        }
-    }
-    Ok(events)
+    Ok(())
 }
 
 /// Returns the history of these operations, of a queue with these initial values.
-pub(crate) fn history_behind(
-    alloc: Global,
-    initial: &[u64],
-    rows: &[Row],
-) -> Result<History, Fail> {
-    let events = events_of(alloc, rows)?;
+pub(crate) fn history_of(alloc: Global, initial: &[u64], rows: &[Row]) -> Result<History, Fail> {
+    let initial = initial.to_vec(alloc)?;
+    let mut events = Vec::new(alloc);
+    for row in rows {
+        push_operation(&mut events, *row)?;
+    }
     if initial.len() > MAX_INITIAL || events.len() > MAX_EVENTS {
         return Err("too many values or events")?;
     }
-    Ok(history_from(alloc, initial.to_vec(alloc)?, events.as_slice())?)
+    Ok(history_from(alloc, initial, events.as_slice())?)
 }

@@ -4,9 +4,10 @@ use Rattle.std.specs.Prelude.{is_some, length, slice_index_or, take, if◌then�
 use Rattle.std.specs.List.{list_any}
 use Rattle.event_records.specs.declared.limits.TheConstants.{MAX_THREADS}
 use Rattle.history_merge.specs.declared.operation.Operation.{Operation}
-use Rattle.history_merge.specs.Initial.{Contents}
+use Rattle.history_merge.specs.Initial.{Contents, HistoryView}
 use Rattle.history_merge.specs.Legal.{ArePlacesOf}
-use Rattle.history_merge.specs.Operations.{enqueued_value}
+use Rattle.history_merge.specs.Operations.{enqueued_value, operations_of}
+use Rattle.verdicts.specs.Selection.{contents_of}
 use Rattle.conditions.specs.declared.producer.Emptiness.{Emptiness}
 use Rattle.conditions.specs.declared.producer.Producer.{Producer}
 use Rattle.conditions.specs.declared.producer.Producer.TheVariants.{Initial, Thread}
@@ -25,6 +26,11 @@ ranked (suc t) = Thread t
 abbrev pub rank_of : Producer → ℕ
 rank_of Initial = 0
 rank_of (Thread t) = suc t
+
+-- the places of the operations of this producer's selection
+abbrev pub ArePlacesFor : Emptiness → Producer → HistoryView → List ℕ → Type 0
+ArePlacesFor emptiness producer history places = ArePlacesOf (operations_of history.events) places
+    (selection_of emptiness producer (contents_of history)).operations
 
 -- whether the operation is an enqueue by this thread, successful or failed
 abbrev pub enqueues_in : ℕ → Operation → Bool

@@ -38,98 +38,41 @@ const CALLS: [Call; 18] = [
     Call::Take,
 ];
 
-type Taken = [Option<u64>; 11];
+type Taken = [u64; 11];
 
-const IN_ORDER: Taken = [
-    None,
-    Some(8),
-    Some(9),
-    Some(0),
-    Some(1),
-    Some(2),
-    Some(3),
-    Some(4),
-    None,
-    None,
-    None,
-];
+// Stands for a dequeue that found the list empty.
+const EMPTY: u64 = u64::MAX;
 
-const LAST_FIRST: Taken = [
-    None,
-    Some(4),
-    Some(3),
-    Some(2),
-    Some(1),
-    Some(0),
-    Some(9),
-    Some(8),
-    None,
-    None,
-    None,
-];
+const IN_ORDER: Taken = [EMPTY, 8, 9, 0, 1, 2, 3, 4, EMPTY, EMPTY, EMPTY];
+
+const LAST_FIRST: Taken = [EMPTY, 4, 3, 2, 1, 0, 9, 8, EMPTY, EMPTY, EMPTY];
 
 // Each 4th value that is found stays. The first dequeue finds none.
-const DOUBLED: Taken = [
-    None,
-    Some(8),
-    Some(9),
-    Some(0),
-    Some(1),
-    Some(1),
-    Some(2),
-    Some(3),
-    Some(4),
-    Some(4),
-    None,
-];
+const DOUBLED: Taken = [EMPTY, 8, 9, 0, 1, 1, 2, 3, 4, 4, EMPTY];
 
 // Each 4th dequeue invents a value.
 const INVENTED: Taken = [
-    None,
-    Some(8),
-    Some(9),
-    Some(9_223_372_036_854_775_808),
-    Some(0),
-    Some(1),
-    Some(2),
-    Some(9_223_372_036_854_775_809),
-    Some(3),
-    Some(4),
-    None,
+    EMPTY,
+    8,
+    9,
+    9_223_372_036_854_775_808,
+    0,
+    1,
+    2,
+    9_223_372_036_854_775_809,
+    3,
+    4,
+    EMPTY,
 ];
 
 // Each 4th dequeue finds the list empty.
-const SHY: Taken = [
-    None,
-    Some(8),
-    Some(9),
-    None,
-    Some(0),
-    Some(1),
-    Some(2),
-    None,
-    Some(3),
-    Some(4),
-    None,
-];
+const SHY: Taken = [EMPTY, 8, 9, EMPTY, 0, 1, 2, EMPTY, 3, 4, EMPTY];
 
 // Each 4th enqueued value is lost.
-const LOST: Taken = [
-    None,
-    Some(8),
-    Some(9),
-    Some(0),
-    Some(1),
-    Some(2),
-    Some(4),
-    None,
-    None,
-    None,
-    None,
-];
+const LOST: Taken = [EMPTY, 8, 9, 0, 1, 2, 4, EMPTY, EMPTY, EMPTY, EMPTY];
 
 // Returns the values that a list returns in these calls, if it takes all values.
-fn taken_out<L: ValueList>(alloc: Global) -> Result<Vec<Option<u64>>, AllocError> {
+fn taken_out<L: ValueList>(alloc: Global) -> Result<Vec<u64>, AllocError> {
     let mut list = L::empty(alloc);
     let mut out = Vec::new(alloc);
     for call in CALLS {
@@ -137,7 +80,7 @@ fn taken_out<L: ValueList>(alloc: Global) -> Result<Vec<Option<u64>>, AllocError
             Call::Preload(value) => list.preload(value),
             Call::Put(value) => list.put(value),
             Call::Take => {
-                out.push(list.take())?;
+                out.push(list.take().unwrap_or(EMPTY))?;
                 true
             }
         };

@@ -2,6 +2,7 @@
 use Rattle.std.specs.Prelude.{◌≡◌, ℕ, List}
 use Rattle.event_records.specs.declared.event.Event.{Event}
 use Rattle.event_records.specs.declared.kind.Kind.{Kind}
+use Rattle.event_records.specs.Question.{Question, Answered}
 use Rattle.history_merge.specs.Initial.{IsCompleteFrom}
 use Rattle.history_merge.specs.Legal.{IsLinearizable}
 use Rattle.history_merge.specs.Merge.{IsMerged}
@@ -9,8 +10,10 @@ use Rattle.history_merge.specs.Operations.{operations_of}
 use Rattle.queue_interface.specs.Answers.{AnswersInKind}
 use Rattle.recorder_core.specs.Replay.{AreRecorded, Replays}
 use Rattle.stress_run.specs.Bounded.{IsLinearizableWithin}
+use Rattle.stress_run.specs.Noted.{NotesOne}
 use Rattle.stress_run.specs.Operations.{IsRun}
 use Rattle.stress_run.specs.Recorded.{RecordedView}
+use Rattle.tickets.specs.Views.{PassView}
 
 -- a run of the plan from these initial values: its lists are recorded ones, replay with rings of this size, and merge
 -- to a complete and linearizable history
@@ -26,3 +29,8 @@ pub record IsProvedRun (plan : List (List Kind)) (ring : ℕ) (initial : List �
 abbrev pub IsRunWithin : ℕ → List ℕ → RecordedView → Type 0
 IsRunWithin room initial r = (merged : List Event) → IsMerged r.lists merged
     → IsLinearizableWithin room initial (operations_of merged)
+
+-- an answer of its kind to this question, which the pass notes; nothing else of the pass changes
+abbrev pub AnswersOne : Question → PassView → Answered → PassView → Type 0
+AnswersOne ask before answered after = (answered.question ≡ ask) × AnswersInKind ask answered.answer
+    × (after ≡ record before { noted = after.noted }) × NotesOne ask answered.answer before.noted after.noted

@@ -16,15 +16,17 @@ use verdicts::Claimed;
 const TEXT: &[u8] = b"fifo-history 1\n999999999998 63 call-enq 18446744073709551615\n\
     999999999999 63 ret-enq\nend 2\nYES\n999999999998 999999999999 63 enq 18446744073709551615\n";
 
-/// Twelve digits, the order at column 14, a lane at 42, and labels at 50.
-const PICTURE: &str = "YES: a FIFO queue can have answered so\n\
+/// What stands above a picture of a linearization.
+const YES_HEAD: &str = "YES: a FIFO queue can have answered so\n\
 The numbers give one order in which the operations can have taken\n\
 effect. They rise from top to bottom, and each stands within its bar.\n\
 \n\
 [    call of an operation\n\
 ]    its return\n\
-1    number 1 in the order, where it takes effect\n\
-\n\
+1    number 1 in the order, where it takes effect\n";
+
+/// Twelve digits, the order at column 14, a lane at 42, and labels at 50.
+const PICTURE: &str = "\n\
 \x20                                         thread\n\
 \x20     ticket  order                       63\n\
 999999999998                              [       enq 18446744073709551615\n\
@@ -56,9 +58,10 @@ fn terminal_of(alloc: Global, text: &[u8], added_from: Option<u64>) -> Result<Ve
 
 #[test]
 fn draws_the_greatest_numbers_whole(rt: HostRuntime) -> Result<(), Fail> {
+    let whole = format!(in rt.alloc(); "{YES_HEAD}{PICTURE}")?;
     assert_eq!(rt;
         terminal_of(rt.alloc(), TEXT, None)?.as_slice(),
-        PICTURE.as_bytes()
+        whole.as_bytes()
     );
     Ok(())
 }
@@ -68,13 +71,7 @@ const OPEN_DEQUEUE: &[u8] = b"fifo-history 1\n0 0 call-enq 7\n1 1 call-deq\n2 0 
     3 1 ret-deq 7\nend 4\nYES\n0 2 0 enq 7\n1 3 1 deq 7\n";
 
 /// Seven characters for `pending`, the order at column 9, lanes at 18 and 22, and labels at 28.
-const OPEN_DEQUEUE_PICTURE: &str = "YES: a FIFO queue can have answered so\n\
-The numbers give one order in which the operations can have taken\n\
-effect. They rise from top to bottom, and each stands within its bar.\n\
-\n\
-[    call of an operation\n\
-]    its return\n\
-1    number 1 in the order, where it takes effect\n\
+const OPEN_DEQUEUE_PICTURE: &str = "\
 |    to the end: a call that never returned; a completion gave its answer\n\
 \n\
 \x20                 thread\n\
@@ -88,9 +85,10 @@ pending               |\n";
 
 #[test]
 fn draws_a_dequeue_that_never_returned(rt: HostRuntime) -> Result<(), Fail> {
+    let whole = format!(in rt.alloc(); "{YES_HEAD}{OPEN_DEQUEUE_PICTURE}")?;
     assert_eq!(rt;
         terminal_of(rt.alloc(), OPEN_DEQUEUE, Some(3))?.as_slice(),
-        OPEN_DEQUEUE_PICTURE.as_bytes()
+        whole.as_bytes()
     );
     Ok(())
 }

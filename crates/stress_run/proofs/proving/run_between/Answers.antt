@@ -1,26 +1,17 @@
-use Rattle.std.proofs.Common.{List, ℕ, subst, refl}
-use Rattle.history_merge.specs.Queue.{IsAccepted}
-use Rattle.stress_run.specs.Noted.{kinds_noted}
-use Rattle.stress_run.proofs.Accepting.{noted_accepted, noted_within}
-use Rattle.stress_run.proofs.Ended.{proved_run, proved_within}
+use Rattle.std.proofs.Common.{refl}
+use Rattle.stress_run.proofs.Ended.{proved_ring, within_ring}
 use Rattle.stress_run.proofs.proving.run_between.Goals as goal
 
 pub returns-clause-proved : goal.returns-clause-proved
 returns-clause-proved g c =
     let run = c.in_ok-lists.ensures in
+    let end = c.close_with_ring-total.ensures in
     let total = c.close_with_ring-total.result in
-    let drawn = c.close_with_ring-total.ensures.drawn in
-    let end = c.close_with_ring-total.ensures.log in
-    proved_run _ _ _ _ _ c.requires.names (run.lists total drawn) (run.told refl) end.1 end.2
-    (subst (λ (values : List ℕ). IsAccepted values (kinds_noted end.0)) c.requires.run.2 (noted_accepted _ end.0 end.3))
-    _ _ _ c.requires.sizes (run.recorded total drawn)
+    proved_ring _ _ _ _ _ _ end.log c.requires.run.2 c.args.start.names (run.lists total end.drawn) (run.told refl)
+    _ _ _ c.args.start.within (run.recorded total end.drawn)
 
 pub returns-clause-bounded : goal.returns-clause-bounded
 returns-clause-bounded g c =
     let run = c.in_ok-lists.ensures in
-    let total = c.close_with_ring-total.result in
-    let drawn = c.close_with_ring-total.ensures.drawn in
-    let end = c.close_with_ring-total.ensures.log in
-    proved_within _ _ _ _ _ c.requires.names (run.lists total drawn) (run.told refl) end.1 end.2
-    (subst (λ (values : List ℕ). IsAccepted values (kinds_noted end.0)) c.requires.run.2 (noted_accepted _ end.0 end.3))
-    _ (noted_within _ _ _ _ end.0 c.requires.run.3 c.requires.run.2 end.4)
+    let end = c.close_with_ring-total.ensures in
+    within_ring _ _ _ _ _ _ end.log c.requires.run.2 c.args.start.names (run.lists c.close_with_ring-total.result end.drawn) (run.told refl) _ c.requires.run.3

@@ -11,6 +11,6 @@ returns-clause-proved g c =
     let total = c.close_with_shared_nodes-total.result in
     let drawn = c.close_with_shared_nodes-total.ensures.drawn in
     let end = c.close_with_shared_nodes-total.ensures.log in
-    proved_run _ _ _ _ _ c.requires.names (run.lists total drawn) (run.told refl) end.1 end.2
+    proved_run _ _ _ _ _ c.args.start.names (run.lists total drawn) (run.told refl) end.1 end.2
     (subst (λ (values : List ℕ). IsAccepted values (kinds_noted end.0)) (c.in_ok-tickets.ensures.initial ∙ c.as_slice.ensures.value) (noted_accepted _ end.0 end.3)) _ _ _
-    c.requires.sizes (run.recorded total drawn)
+    c.args.start.within (run.recorded total drawn)

@@ -9,6 +9,6 @@ returns-clause-proved g c =
     let run = c.in_ok-lists.ensures in
     let end = c.close_with_log-total.ensures in
     let total = c.close_with_log-total.result in
-    proved_run _ _ _ _ _ c.requires.names (run.lists total end.drawn) (run.told refl) end.noted end.rise
-    (subst (λ (values : List ℕ). IsAccepted values (kinds_noted c.into_log-log.result.notes)) (sym c.requires.run.1) c.into_log-log.ensures.accepted) _ _ _ c.requires.sizes
+    proved_run _ _ _ _ _ c.args.start.names (run.lists total end.drawn) (run.told refl) end.noted end.rise
+    (subst (λ (values : List ℕ). IsAccepted values (kinds_noted c.into_log-log.result.notes)) (sym c.requires.run.1) c.into_log-log.ensures.accepted) _ _ _ c.args.start.within
     (run.recorded total end.drawn)
