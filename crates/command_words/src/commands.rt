@@ -1,6 +1,6 @@
 //! The commands, as clap accepts them.
 ghost use Rattle.std.specs.Prelude.{◌≡◌, IfOk, false};
-ghost use Rattle.clap.specs.Simple.{Shape, app_of, new_app, shape_of, with_subcommand};
+ghost use Rattle.clap.specs.Simple.{with_rule, Shape, app_of, new_app, shape_of, with_subcommand};
 ghost use Rattle.clap.specs.Walk.{rule_of};
 ghost use Rattle.clap.specs.declared.builder.command.Command.TheViews.{out-Command};
 ghost use Rattle.command_words.specs.Commands.{the_program, the_program_alone};

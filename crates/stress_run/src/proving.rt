@@ -101,8 +101,8 @@ fn run_named<J: OfRun + Send + Sync, R: Threads + Wait + Sync>(
     requires budget { named.0.budget ≡ 2 * sum_by length start.plan.now }
     requires pass { named.1 ≡ fresh_pass named.0.key (2 * sum_by length start.plan.now) }
     requires log { named.2 ≡ record { key = named.0.key; notes = [] } }
-    ensures proved { IfOk result (IsProvedRun start.plan.now start.sizes.ring start.held.items) }
-    ensures fault { IfErr result (IsFaultOfRun AnswersInKind [] start.plan.now start.sizes) }
+    ensures proved { IfOk result (IsProvedRun start.entry.plan.now start.entry.sizes.ring start.entry.held.items) }
+    ensures fault { IfErr result (IsFaultOfRun AnswersInKind [] start.entry.plan.now start.entry.sizes) }
 {
     let Start { held, plan, sizes } = start;
     let (tickets, pass, log) = named;
@@ -132,10 +132,10 @@ fn run_between<J: OfRun + Send + Sync, R: Threads + Wait + Sync>(
     requires pass { named.1 ≡ fresh_pass named.0.key (2 * sum_by length start.plan.now) }
     requires tail { named.2 ≡ named.0.key }
     requires head { named.3 ≡ named.0.key }
-    ensures proved { IfOk result (IsProvedRun start.plan.now start.sizes.ring start.held.items) }
+    ensures proved { IfOk result (IsProvedRun start.entry.plan.now start.entry.sizes.ring start.entry.held.items) }
     ensures bounded { IfOk result
-        (IsRunWithin (length start.held.items + sum_by length start.plan.now) start.held.items) }
-    ensures fault { IfErr result (IsFaultOfRun AnswersInKind [] start.plan.now start.sizes) }
+        (IsRunWithin (length start.entry.held.items + sum_by length start.entry.plan.now) start.entry.held.items) }
+    ensures fault { IfErr result (IsFaultOfRun AnswersInKind [] start.entry.plan.now start.entry.sizes) }
 {
     let Start { held, plan, sizes } = start;
     let (tickets, pass, tail, head) = named;
@@ -151,8 +151,8 @@ fn run_between<J: OfRun + Send + Sync, R: Threads + Wait + Sync>(
 
 // Makes a run on a list under one lock, which holds the initial values at first.
 fn run_one_lock<R: Threads + Wait + Sync>(rt: &R, alloc: Global, start: Start<'_>) -> Ran
-    ensures proved { IfOk result (IsProvedRun start.plan.now start.sizes.ring start.held.items) }
-    ensures fault { IfErr result (IsFaultOfRun AnswersInKind [] start.plan.now start.sizes) }
+    ensures proved { IfOk result (IsProvedRun start.entry.plan.now start.entry.sizes.ring start.entry.held.items) }
+    ensures fault { IfErr result (IsFaultOfRun AnswersInKind [] start.entry.plan.now start.entry.sizes) }
 {
     let named = Tickets::with_log(alloc, 2 * start.plan.operations())?;
     run_named::<Brand, R>(rt, alloc, named, start)
@@ -160,10 +160,10 @@ fn run_one_lock<R: Threads + Wait + Sync>(rt: &R, alloc: Global, start: Start<'_
 
 // Makes a run on a ring with a lock for each end, which holds the initial values at first.
 fn run_two_locks<R: Threads + Wait + Sync>(rt: &R, alloc: Global, start: Start<'_>) -> Ran
-    ensures proved { IfOk result (IsProvedRun start.plan.now start.sizes.ring start.held.items) }
+    ensures proved { IfOk result (IsProvedRun start.entry.plan.now start.entry.sizes.ring start.entry.held.items) }
     ensures bounded { IfOk result
-        (IsRunWithin (length start.held.items + sum_by length start.plan.now) start.held.items) }
-    ensures fault { IfErr result (IsFaultOfRun AnswersInKind [] start.plan.now start.sizes) }
+        (IsRunWithin (length start.entry.held.items + sum_by length start.entry.plan.now) start.entry.held.items) }
+    ensures fault { IfErr result (IsFaultOfRun AnswersInKind [] start.entry.plan.now start.entry.sizes) }
 {
     let operations = start.plan.operations();
     let room = start.held.len() + operations as usize;
@@ -174,8 +174,8 @@ fn run_two_locks<R: Threads + Wait + Sync>(rt: &R, alloc: Global, start: Start<'
 // Makes a run on nodes without a lock, which hold the initial values at first.
 #[tactic(auto, using(crate::proofs::Ended::no_mark))]
 fn run_lock_free<R: Threads + Sync>(rt: &R, alloc: Global, start: Start<'_>) -> Ran
-    ensures proved { IfOk result (IsProvedRun start.plan.now start.sizes.ring start.held.items) }
-    ensures fault { IfErr result (IsFaultOfRun AnswersInKind [] start.plan.now start.sizes) }
+    ensures proved { IfOk result (IsProvedRun start.entry.plan.now start.entry.sizes.ring start.entry.held.items) }
+    ensures fault { IfErr result (IsFaultOfRun AnswersInKind [] start.entry.plan.now start.entry.sizes) }
 {
     let Start { held, plan, sizes } = start;
     let operations = plan.operations();
@@ -194,10 +194,10 @@ fn run_lock_free<R: Threads + Sync>(rt: &R, alloc: Global, start: Start<'_>) -> 
 // Makes a run on a ring without a lock, which holds the initial values at first.
 fn run_ring<R: Threads + Sync>(rt: &R, alloc: Global, start: Start<'_>) -> Ran
     requires roles { HasOneOfEach start.plan.now }
-    ensures proved { IfOk result (IsProvedRun start.plan.now start.sizes.ring start.held.items) }
+    ensures proved { IfOk result (IsProvedRun start.entry.plan.now start.entry.sizes.ring start.entry.held.items) }
     ensures bounded { IfOk result
-        (IsRunWithin (max RING_PLACES (length start.held.items)) start.held.items) }
-    ensures fault { IfErr result (IsFaultOfRun AnswersInKind [] start.plan.now start.sizes) }
+        (IsRunWithin (max RING_PLACES (length start.entry.held.items)) start.entry.held.items) }
+    ensures fault { IfErr result (IsFaultOfRun AnswersInKind [] start.entry.plan.now start.entry.sizes) }
 {
     let Start { held, plan, sizes } = start;
     let (tickets, pass, tail, head) = Tickets::with_ring(
@@ -234,10 +234,10 @@ fn run_held<R: Threads + Wait + Sync>(
     start: Start<'_>,
 ) -> Result<Recorded, RunFault>
     requires roles { CanRun queue start.plan.now }
-    ensures proved { IfOk result (IsProvedRun start.plan.now start.sizes.ring start.held.items) }
-    ensures bounded { IfSome (room_of queue start.held.items start.plan.now)
-        (λ room. IfOk result (IsRunWithin room start.held.items)) }
-    ensures fault { IfErr result (IsFaultOfRun AnswersInKind [] start.plan.now start.sizes) }
+    ensures proved { IfOk result (IsProvedRun start.entry.plan.now start.entry.sizes.ring start.entry.held.items) }
+    ensures bounded { IfSome (room_of queue start.entry.held.items start.entry.plan.now)
+        (λ room. IfOk result (IsRunWithin room start.entry.held.items)) }
+    ensures fault { IfErr result (IsFaultOfRun AnswersInKind [] start.entry.plan.now start.entry.sizes) }
 {
     match queue {
         ProvedQueue::OneLock => run_one_lock(rt, alloc, start),

@@ -51,12 +51,12 @@ row_of s = drop 1 s.words
 
 -- a step that a caller chose is allowed if it follows from what an allowed step tells
 pub allows_play : (holds : State (Unit {0}) Holding → Type 0) (slots id : ℕ) (me : Me (Unit {0}) Holding) (word : ℕ) (f : ℕ → ℕ) (tells : ℕ → Holding → Type 0)
-    (then : ℕ → Me (Unit {0}) Holding → Type 0) → Allows holds slots id me word f (λ found after. tells found after.0 × (after.1 ≡ me.1))
-    → ((found : ℕ) (after : Holding) → tells found after → then found (after, me.1)) → Allows holds slots id me word f then
-allows_play holds slots id me word f tells then allowed follows s r long at small =
+    (chosen : ℕ → Me (Unit {0}) Holding → Type 0) → Allows holds slots id me word f (λ found after. tells found after.0 × (after.1 ≡ me.1))
+    → ((found : ℕ) (after : Holding) → tells found after → chosen found (after, me.1)) → Allows holds slots id me word f chosen
+allows_play holds slots id me word f tells chosen allowed follows s r long at small =
     let x = allowed s r long at small in
     let found = get_or s.words word 0 in
-    (x.0, x.1, x.2, x.3, subst (λ carried. then found (x.0, carried)) (sym x.4.1) (follows found x.0 x.4.0))
+    (x.0, x.1, x.2, x.3, subst (λ carried. chosen found (x.0, carried)) (sym x.4.1) (follows found x.0 x.4.0))
 
 -- ---- shares and counts
 

@@ -8,6 +8,7 @@ use Rattle.completions.specs.Pending.{IsHistoryFrom}
 use Rattle.completions.proofs.Sound.{length_completed}
 use Rattle.completions.proofs.completion.complete_history.Goals.{then-saturating_add-gt-MAX_EVENTS-via-then-saturating_add-gt-MAX_EVENTS}
 use Rattle.completions.proofs.completion.complete_history.Goals.{then-saturating_add-gt-MAX_EVENTS-via-else-saturating_add-gt-MAX_EVENTS+then-ticket-count}
+use Rattle.completions.proofs.completion.complete_history.Goals.{After-drop-given-2}
 use Rattle.completions.proofs.completion.complete_history.Goals as goal
 
 pub pending_calls-requires-clause-before : goal.pending_calls-requires-clause-before
@@ -43,14 +44,17 @@ returns-then-saturating_add-gt-MAX_EVENTS-clause-fault c =
       ],
     )
 
+answers_are : (c : After-drop-given-2) → c.in_ok-answers.answers.items ≡ answers_to c.args.initial.now c.args.events.items
+answers_are c = c.in_ok-answers.ensures c.args.events.items
+    (subst (AreGiven c.args.events.items) (sym c.as_slice-3.ensures.value) (c.sort_given.ensures c.args.events.items c.requires.walked.given))
+    (c.as_slice-4.ensures.value ∙ c.requires.walked.taken)
+    (c.as_slice-5.ensures.value ∙ c.in_ok-calls.ensures ∙ ap pending_calls c.as_slice-2.ensures.value)
+
 pub returns-clause-within : goal.returns-clause-within
 returns-clause-within c =
     let events = c.args.events.items in
     let whole = length_completed c.args.initial.now events in
-    let made = c.in_ok-answers.ensures events
-    (subst (AreGiven events) (sym c.as_slice-3.ensures.value) (c.sort_given.ensures events c.requires.walked.given))
-    (c.as_slice-4.ensures.value ∙ c.requires.walked.taken)
-    (c.as_slice-5.ensures.value ∙ c.in_ok-calls.ensures ∙ ap pending_calls c.as_slice-2.ensures.value) in
+    let made = answers_are c in
     let answers = ap (λ (l : List Answer). length l) made in
     let next = c.next_ticket-ticket.ensures.next ∙ ap next_ticket c.as_slice-6.ensures.value in
     let kept = ap (λ (l : List Event). length l) (c.leave_out.ensures
@@ -63,10 +67,7 @@ returns-clause-within c =
 pub returns-clause-completed : goal.returns-clause-completed
 returns-clause-completed c =
     let events = c.args.events.items in
-    let made = c.in_ok-answers.ensures events
-    (subst (AreGiven events) (sym c.as_slice-3.ensures.value) (c.sort_given.ensures events c.requires.walked.given))
-    (c.as_slice-4.ensures.value ∙ c.requires.walked.taken)
-    (c.as_slice-5.ensures.value ∙ c.in_ok-calls.ensures ∙ ap pending_calls c.as_slice-2.ensures.value) in
+    let made = answers_are c in
     let kept = c.leave_out.ensures
     ∙ ap (λ (l : List Answer). filter (λ e. not (is_left_out events l e)) events) (c.as_slice-7.ensures.value ∙ made) in
     let next = c.next_ticket-ticket.ensures.next ∙ ap next_ticket c.as_slice-6.ensures.value in

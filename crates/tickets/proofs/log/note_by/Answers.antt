@@ -12,6 +12,6 @@ load-requires g c =
     let the_step = step c.tickets.inside.table.shared.table_id.slots 0 0 0 none in (
       search rules,
       search rules,
-      allows_play _ _ _ me _ _ (NotesAt c.args.call c.args.effect me.0) (g.M.Play.then the_step me)
+      allows_play _ _ _ me _ (λ n. n) (NotesAt c.args.call c.args.effect me.0) (g.M.Play.then the_step me)
           (notes key _ _ me c.args.call c.args.effect c.requires.knows c.requires.drew) (c.requires.tells the_step),
     )

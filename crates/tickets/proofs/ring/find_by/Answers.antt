@@ -14,7 +14,7 @@ load-requires g c =
     let the_step = step c.tickets.inside.table.shared.table_id.slots 1 0 0 none in (
       search rules,
       search rules,
-      allows_play _ _ _ me _ _ (FindsOne c.args.call place.at me.0) (g.M.Play.then the_step me)
+      allows_play _ _ _ me _ (λ n. n) (FindsOne c.args.call place.at me.0) (g.M.Play.then the_step me)
           (finds c.tickets.inside.table.shared.key _ _ me c.args.call place.at place.room Unknown c.requires.asks refl c.requires.drew)
           (c.requires.tells the_step),
     )

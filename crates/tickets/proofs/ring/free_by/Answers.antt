@@ -15,7 +15,7 @@ store-requires g c =
     let the_step = step c.tickets.inside.table.shared.table_id.slots 2 n 0 none in (
       search rules,
       search rules,
-      allows_play _ _ _ me _ _ (λ _. Frees c.args.call c.args.value me.0) (λ _. g.M.Play.then the_step me n)
+      allows_play _ _ _ me _ (λ _. n) (λ _. Frees c.args.call c.args.value me.0) (λ _. g.M.Play.then the_step me n)
           (frees c.tickets.inside.table.shared.key _ _ me c.args.call place.at place.room (Holds c.args.value) c.requires.read
           c.args.value n refl c.next_position-next.ensures.next c.requires.drew) (λ _. c.requires.tells the_step n),
     )

@@ -14,7 +14,7 @@ load-requires g c =
     let the_step = step c.tickets.inside.table.shared.table_id.slots 2 0 0 none in (
       search rules,
       search rules,
-      allows_play _ _ _ me _ _ (Glances c.args.call c.args.value (position place.room (place.at + 1)) place.room me.0) (g.M.Play.then the_step me)
+      allows_play _ _ _ me _ (λ n. n) (Glances c.args.call c.args.value (position place.room (place.at + 1)) place.room me.0) (g.M.Play.then the_step me)
           (glances c.tickets.inside.table.shared.key _ _ me c.args.call place.at place.seen place.room None c.requires.asks c.args.value refl
           c.requires.drew) (c.requires.tells the_step),
     )

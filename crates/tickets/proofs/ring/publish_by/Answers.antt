@@ -15,7 +15,7 @@ store-requires g c =
     let the_step = step c.tickets.inside.table.shared.table_id.slots 1 n 0 none in (
       search rules,
       search rules,
-      allows_play _ _ _ me _ _ (λ _. Publishes c.args.call c.args.value me.0) (λ _. g.M.Play.then the_step me n)
+      allows_play _ _ _ me _ (λ _. n) (λ _. Publishes c.args.call c.args.value me.0) (λ _. g.M.Play.then the_step me n)
           (publishes c.tickets.inside.table.shared.key _ _ me c.args.call place.at place.seen place.room (Some c.args.value) c.requires.staged
           c.args.value n refl c.next_position-next.ensures.next c.requires.drew) (λ _. c.requires.tells the_step n),
     )

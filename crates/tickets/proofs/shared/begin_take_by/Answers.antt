@@ -16,7 +16,7 @@ load-requires g c =
     let the_step = step c.tickets.inside.table.shared.table_id.slots 2 0 0 none in (
       search rules,
       in_row,
-      allows_play _ _ _ me _ _ (BeginsToTake c.args.call c.args.tickets.now.room me.0) (g.M.Play.then the_step me)
+      allows_play _ _ _ me _ (λ n. n) (BeginsToTake c.args.call c.args.tickets.now.room me.0) (g.M.Play.then the_step me)
           (begins_to_take c.tickets.inside.table.shared.key shared _ _ me c.args.call c.args.tickets.now.room
           (omega (arith, sizes.1, ap (λ (t : TicketsView). t.room) c.tickets.view_is))) (c.requires.tells the_step),
     )

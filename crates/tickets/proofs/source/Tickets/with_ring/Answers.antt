@@ -27,8 +27,8 @@ split_seat-ends-requires c = (search rules, search rules, parts c.in_ok-table.ta
 pub split_seat-head-requires : goal.split_seat-head-requires
 split_seat-head-requires c = (search rules, search rules, parts_head c.in_ok-table.table.shared.key _ _)
 
-pub of_seat-requires-clause-place : goal.of_seat-requires-clause-place
-of_seat-requires-clause-place c =
+pub of_seat-requires-2-clause-place : goal.of_seat-requires-2-clause-place
+of_seat-requires-2-clause-place c =
     let initial = c.args.initial.now in
     let room = c.args.room in
     let setup : Setup = record { budget = c.args.budget; has_ring = true; is_shared = false; filled = length initial; words = c.of.result } in
