@@ -49,7 +49,7 @@ ticket_of s = get_or s.words 0 0
 abbrev pub row_of : State (Unit {0}) Holding → List ℕ
 row_of s = drop 1 s.words
 
--- a step that a caller chose is allowed if it follows from what an allowed step tells
+-- a step that a caller chose is allowed if it follows from what an allowed step shows
 pub allows_play : (holds : State (Unit {0}) Holding → Type 0) (slots id : ℕ) (me : Me (Unit {0}) Holding) (word : ℕ) (f : ℕ → ℕ) (tells : ℕ → Holding → Type 0)
     (chosen : ℕ → Me (Unit {0}) Holding → Type 0) → Allows holds slots id me word f (λ found after. tells found after.0 × (after.1 ≡ me.1))
     → ((found : ℕ) (after : Holding) → tells found after → chosen found (after, me.1)) → Allows holds slots id me word f chosen
