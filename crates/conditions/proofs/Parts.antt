@@ -2,7 +2,7 @@
 use Rattle.std.proofs.Common.{◌≡◌, ℕ, ◌+◌, ◌≤◌, ◌++◌, Bool, true, false, cond, List, [], ◌∷◌, length}
 use Rattle.std.proofs.Common.{take, map, Some, refl, ap, ap₂, sym, subst, ◌∙◌, arith}
 use Rattle.std.specs.Prelude.{filter, slice_get}
-use Rattle.std.proofs.lemmas.List.{append-nil, map-append, take_all}
+use Rattle.std.proofs.lemmas.List.{append-nil, map-append}
 use Rattle.std.proofs.lemmas.List.Elements.{filter-append}
 use Rattle.std.proofs.lemmas.Option.{get_or_from_slice_get, slice_get_within}
 use Rattle.event_records.specs.declared.event.Event.{Event}
@@ -100,10 +100,3 @@ module _ (whole : HistoryView) (complete : IsCompleteFrom whole.initial whole.ev
 pub all_pass : {X : Type 0} (xs : List X) → filter (λ x. true) xs ≡ xs
 all_pass [] = refl
 all_pass (x ∷ xs) = ap (λ ys. x ∷ ys) (all_pass xs)
-
--- at the end of the walk
-pub places_of_all : (test : Operation → Bool) (operations : List Operation) (i : ℕ) (places : List ℕ)
-    → length operations ≤ i
-    → ArePlacesOf operations places (filter test (take i operations))
-    → ArePlacesOf operations places (filter test operations)
-places_of_all test operations i places past are = subst (λ os. ArePlacesOf operations places (filter test os)) (take_all i operations past) are

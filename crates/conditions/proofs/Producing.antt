@@ -17,6 +17,7 @@ use Rattle.std.proofs.lemmas.List.Sorted.{Contains-permutation, IsPermutation-sy
 use Rattle.std.proofs.lemmas.Option.{slice_get_within}
 use Rattle.event_records.specs.declared.limits.TheConstants.{MAX_INITIAL, ORIGIN}
 use Rattle.history_merge.specs.declared.operation.Operation.{Operation}
+use Rattle.history_merge.specs.declared.operation.OpKind.TheVariants.{Enqueue, EnqueueFailed}
 use Rattle.history_merge.specs.Complete.{AreComplete}
 use Rattle.history_merge.specs.Faults.{is_initial}
 use Rattle.history_merge.specs.Initial.{Contents, initial_enqueues, later_by}
@@ -33,7 +34,7 @@ use Rattle.conditions.specs.declared.producer.Emptiness.TheVariants.{Strict, Wea
 use Rattle.conditions.specs.declared.producer.Producer.{Producer}
 use Rattle.conditions.specs.declared.producer.Producer.TheVariants.{Initial, Thread}
 use Rattle.conditions.specs.declared.producers.Produced.{Produced}
-use Rattle.conditions.specs.declared.sharing.Share.TheVariants.{Everybody, Nobody}
+use Rattle.conditions.specs.declared.sharing.Share.TheVariants.{Everybody, Nobody, Only}
 use Rattle.conditions.specs.Conditions.{counts_for, enqueues, is_producer, judges_empties, producer_of}
 use Rattle.conditions.specs.Inner.Parts.{initial_of}
 use Rattle.conditions.specs.Inner.Producers.{AreProducers, goes_to, produced_by, producer_at, share_of, share_of_value}
@@ -59,6 +60,7 @@ searched_by_value xs v (Err i) rise in_range parted =
       | inr more ↦ let after : v < (get_or xs k d).value = ranked _ v _ (sym (parts.1 k d more within)) in omega arith
     ]
 
+-- the producer of a value is that at its place in the list
 pub found_producer : (whole : Contents) (xs : List Produced) (v i : ℕ) (d : Produced) → AreProducers whole xs
     → i < length xs
     → (get_or xs i d).value ≡ v → Some (get_or xs i d).producer ≡ producer_of whole v
@@ -174,6 +176,30 @@ module _ (whole : Contents) (complete : AreComplete (timeline whole.initial whol
     | inr there ↦ at_later o v there is
   ]
 
+  -- the producer of an enqueued value is its thread
+  own_thread : (x : Operation) (v : ℕ) → Contains whole.operations x → enqueued_value x.kind ≡ Some v
+      → producer_of whole v ≡ Some (Thread x.thread)
+  own_thread x v among is =
+      let late : nat_lt (x.call + ORIGIN) ORIGIN ≡ false = grind (arith, nat_tests) in
+      at_later (later_by ORIGIN x) v (mapped_to (later_by ORIGIN) whole.operations x among) is ∙ rw late refl
+
+  -- the producer of an operation's value, as it is found at the operation
+  pub near_producer : (o : Operation) (v : ℕ) (x : Produced) → Contains all o → enqueued_value o.kind ≡ Some v
+      → Some x ≡ produced_by o → producer_of whole v ≡ Some x.producer
+  near_producer o v x among is found =
+      let made : Some x ≡ Some (record { value = v; producer = producer_at o }) =
+      found ∙ ap (option_map (λ v. record { value = v; producer = producer_at o })) is in
+      at_source o v among is ∙ ap (option_map (λ (y : Produced). y.producer)) (sym made)
+
+  -- a call to enqueue belongs to the selection of its thread alone
+  pub own_share : (emptiness : Emptiness) (o : Operation) → Contains whole.operations o
+      → ((v : ℕ) × (o.kind ≡ Enqueue v)) ⊎ ((v : ℕ) × (o.kind ≡ EnqueueFailed v))
+      → Only (Thread o.thread) ≡ share_of whole emptiness o.kind
+  own_share emptiness o among (inl (v, is)) =
+      rw is (ap share_of_value (sym (own_thread o v among (ap enqueued_value is))))
+  own_share emptiness o among (inr (v, is)) =
+      rw is (ap share_of_value (sym (own_thread o v among (ap enqueued_value is))))
+
   -- a value with a producer has an operation
   source_of : (v : ℕ) (p : Producer) → producer_of whole v ≡ Some p
       → (o : Operation) × Contains all o × (enqueued_value o.kind ≡ Some v)
@@ -260,8 +286,3 @@ pub initial_selected : (whole : Contents) (p : Producer)
     → filter (counts_for whole p) whole.initial ≡ initial_of p whole.initial
 initial_selected whole Initial = kept_each (counts_for whole Initial) whole.initial (λ v among. counts_initial whole v Initial among)
 initial_selected whole (Thread t) = kept_none (counts_for whole (Thread t)) whole.initial (λ v among. counts_initial whole v (Thread t) among)
-
--- equal lists have the same value at a place
-pub value_at : (xs ys : List Produced) (v i : ℕ) → xs ≡ ys → ((d : Produced) → (get_or xs i d).value ≡ v)
-    → (d : Produced) → (get_or ys i d).value ≡ v
-value_at xs ys v i same at d = subst (λ (zs : List Produced). (get_or zs i d).value ≡ v) same (at d)

@@ -1,5 +1,5 @@
 -- The places of operations by producer.
-use Rattle.std.proofs.Common.{◌≡◌, ℕ, zero, suc, ◌+◌, ◌<◌, ◌≤◌, ◌++◌, inl, inr, Bool, true, false, cond, List, []}
+use Rattle.std.proofs.Common.{◌≡◌, ℕ, zero, suc, ◌+◌, ◌<◌, ◌++◌, inl, inr, Bool, true, false, cond, List, []}
 use Rattle.std.proofs.Common.{◌∷◌, length, get_or, set, take, Some, None, refl, ap, sym, subst, ◌∙◌, arith}
 use Rattle.std.specs.Prelude.{filter, replicate, slice_get}
 use Rattle.std.proofs.lemmas.Bool.{cases_Bool}
@@ -10,14 +10,10 @@ use Rattle.history_merge.specs.Initial.{Contents}
 use Rattle.history_merge.specs.Legal.{ArePlacesOf}
 use Rattle.value_match.proofs.Lists.{one_more}
 use Rattle.conditions.specs.declared.producer.Emptiness.{Emptiness}
-use Rattle.conditions.specs.declared.producers.Produced.{Produced}
 use Rattle.conditions.specs.declared.sharing.Share.{Share}
-use Rattle.conditions.specs.Conditions.{counts_for, judges_empties}
-use Rattle.conditions.specs.Inner.Producers.{AreProducers, goes_to, share_of}
-use Rattle.conditions.specs.Inner.Sharing.{AreMarked, AreSharedOut, HasSharedOut, IsSharedOut, ranked}
-use Rattle.verdicts.specs.Selection.{selects}
-use Rattle.conditions.proofs.Parts.{past_end, places_more, places_of_all, places_same}
-use Rattle.conditions.proofs.Producing.{selected_by_share}
+use Rattle.conditions.specs.Inner.Producers.{goes_to, share_of}
+use Rattle.conditions.specs.Inner.Sharing.{AreMarked, HasSharedOut, IsSharedOut, ranked}
+use Rattle.conditions.proofs.Parts.{past_end, places_more, places_same}
 
 none_marked : (n t : ℕ) → get_or (replicate n false) t false ≡ false
 none_marked zero t = refl
@@ -51,32 +47,16 @@ bucket_more test operations i o before now at is are = elim (cases_Bool (test o)
       subst (λ ps. ArePlacesOf operations ps (filter test (take (i + 1) operations))) (sym same) (places_same test operations i o at before fails are)
 ]
 
-pub shared_further : (operations : List Operation) (i place : ℕ) (o : Operation) (share : Share) (used : List Bool)
-    (by_value : List Produced)
-    (emptiness : Emptiness) (before after : List (List ℕ)) → slice_get operations i ≡ Some o → place ≡ i
-    → ((whole : Contents) → AreProducers whole by_value → share ≡ share_of whole emptiness o.kind) → IsSharedOut share used place before after
-    → HasSharedOut operations i used by_value emptiness before → HasSharedOut operations (i + 1) used by_value emptiness after
-shared_further operations i place o share used by_value emptiness before after at here known shared has = (
+pub shared_further : (whole : Contents) (i place : ℕ) (o : Operation) (share : Share) (used : List Bool)
+    (emptiness : Emptiness) (before after : List (List ℕ)) → slice_get whole.operations i ≡ Some o → place ≡ i
+    → share ≡ share_of whole emptiness o.kind → IsSharedOut share used place before after
+    → HasSharedOut whole i used emptiness before → HasSharedOut whole (i + 1) used emptiness after
+shared_further whole i place o share used emptiness before after at here known shared has = (
   shared.one_each ∙ has.0,
-  λ whole are k below in_use.
+  λ k below in_use.
       let more = shared.each k (omega (arith, has.0)) in_use
-      ∙ ap (λ (s : Share). get_or before k [] ++ cond (goes_to (ranked k) s) (place ∷ []) []) (known whole are)
+      ∙ ap (λ (s : Share). get_or before k [] ++ cond (goes_to (ranked k) s) (place ∷ []) []) known
       ∙ ap (λ (p : ℕ). get_or before k [] ++ cond (goes_to (ranked k) (share_of whole emptiness o.kind)) (p ∷ []) []) here in
-      bucket_more (λ o. goes_to (ranked k) (share_of whole emptiness o.kind)) operations i o (get_or before k []) (get_or after k []) at more
-      (has.1 whole are k below in_use),
+      bucket_more (λ o. goes_to (ranked k) (share_of whole emptiness o.kind)) whole.operations i o (get_or before k []) (get_or after k []) at more
+      (has.1 k below in_use),
 )
-
--- all operations are shared out
-pub all_shared_out : (whole : Contents) (emptiness : Emptiness) (operations : List Operation) (count : ℕ)
-    (used : List Bool) (by_value : List Produced)
-    (buckets : List (List ℕ)) → whole.operations ≡ operations → length operations ≤ count → AreMarked operations used → AreProducers whole by_value
-    → HasSharedOut operations count used by_value emptiness buckets → AreSharedOut emptiness whole used buckets
-all_shared_out whole emptiness operations count used by_value buckets is past marked are has = record {
-  one_each = has.0;
-  marked = subst (λ os. AreMarked os used) (sym is) marked;
-  places = λ k below in_use.
-      let test = λ (o : Operation). goes_to (ranked k) (share_of whole emptiness o.kind) in
-      let there = places_of_all test operations count (get_or buckets k []) past (has.1 whole are k below in_use) in
-      subst (λ os. ArePlacesOf os (get_or buckets k []) (filter (selects (counts_for whole (ranked k)) (λ call. judges_empties emptiness)) os)) (sym is)
-      (subst (ArePlacesOf operations (get_or buckets k [])) (selected_by_share whole (ranked k) emptiness operations) there);
-}

@@ -1,16 +1,15 @@
 //! Places of operations, by the producers to whose selections the operations belong.
-ghost use Rattle.std.specs.Prelude.{◌≡◌, ◌<◌, ◌≤◌, ◌++◌, ◌∷◌, ℕ, [], IfOk, OnOk, false, length, nat_eq};
+ghost use Rattle.std.specs.Prelude.{◌≡◌, ◌<◌, ◌++◌, ◌∷◌, ℕ, [], IfOk, OnOk, false, length, nat_eq};
 ghost use Rattle.std.specs.Prelude.{slice_index_or, true, vec_len, if◌then◌else◌};
-ghost use Rattle.event_records.specs.declared.limits.TheConstants.{MAX_EVENTS};
-ghost use Rattle.history_merge.specs.Initial.{Contents};
-ghost use Rattle.conditions.specs.Inner.Producers.{AreProducers};
+ghost use Rattle.history_merge.specs.Operations.{operations_of};
+ghost use Rattle.verdicts.specs.Selection.{contents_of};
 ghost use Rattle.conditions.specs.Inner.Sharing.{AreMarked, AreSharedOut, IsSharedOut};
 
 use crate::producer::Emptiness;
-use crate::producers::Producers;
 use crate::ranks::{PRODUCERS, rank_of};
-use crate::sharing::{GUESSES, Share, share_of};
-use history_merge::{OpId, Operations};
+use crate::search::ProducerSearch;
+use crate::sharing::{Share, share_of};
+use history_merge::{History, OpId};
 use std::alloc::{AllocError, Global};
 use std::marker::Model;
 
@@ -110,23 +109,20 @@ fn share_out_place(
 /// Returns the places of the selection of each producer in use.
 pub(crate) fn share_out(
     alloc: Global,
-    operations: &Operations<'_>,
-    producers: &Producers,
+    history: &History,
     emptiness: Emptiness,
     used: &[bool],
 ) -> Result<Vec<Bucket>, AllocError>
-    requires few { length operations.now ≤ MAX_EVENTS }
-    requires marked { AreMarked operations.now used.now }
-    ensures { IfOk result (λ buckets. (whole : Contents) → whole.operations ≡ operations.now
-        → AreProducers whole producers.now.by_value.items
-        → AreSharedOut emptiness whole used.now buckets.items) }
+    requires { AreMarked (operations_of history.now.events) used.now }
+    ensures { IfOk result (λ buckets. AreSharedOut emptiness (contents_of history.now) used.now buckets.items) }
 {
-    let mut guesses = [0; GUESSES];
+    let operations = history.operations();
+    let mut search = ProducerSearch::new(alloc, history)?;
     let mut buckets = empty_buckets(alloc)?;
     for place in 0..operations.len() {
         let id = OpId::new(place as u32);
         if let Some(operation) = operations.get(id) {
-            let share = share_of(producers, &mut guesses, emptiness, operation.kind);
+            let share = share_of(alloc, history, &mut search, emptiness, operation)?;
             share_out_place(&mut buckets, used, share, id)?;
         }
     }

@@ -9,6 +9,7 @@ mod part;
 mod producer;
 mod producers;
 mod ranks;
+mod search;
 mod selections;
 mod sharing;
 mod verifying;

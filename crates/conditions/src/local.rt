@@ -15,7 +15,6 @@ ghost use Rattle.conditions.specs.Inner.Sharing.{AreSharedOut};
 use crate::moved::moved_verdict;
 use crate::part::{Part, part_of};
 use crate::producer::{Emptiness, Producer};
-use crate::producers::Producers;
 use crate::ranks::{PRODUCERS, ranked};
 use crate::selections::{Selections, initial_of, part_at, selections_of};
 use crate::sharing::places_selected;
@@ -86,14 +85,7 @@ fn part_for(
 ) -> Result<Part, AllocError>
     ensures { IfOk result (IsPart history.now (selection_of emptiness producer (contents_of history.now))) }
 {
-    let producers = Producers::new(alloc, history)?;
-    let places = places_selected(
-        alloc,
-        &history.operations(),
-        &producers,
-        emptiness,
-        producer,
-    )?;
+    let places = places_selected(alloc, history, emptiness, producer)?;
     let initial = initial_of(alloc, history.initial(), producer)?;
     part_of(alloc, history, initial, places)
 }

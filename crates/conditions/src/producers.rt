@@ -1,7 +1,5 @@
 //! The producers of a history's values.
-ghost use Rattle.std.specs.Prelude.{◌≡◌, ◌<◌, ◌↔◌, IfOk, IfSome, IsTrue, MatchOption};
-ghost use Rattle.std.specs.Prelude.{None, filter_map, length, slice_index_or};
-ghost use Rattle.conditions.specs.declared.producers.Produced.{Produced};
+ghost use Rattle.std.specs.Prelude.{◌≡◌, IfOk, filter_map};
 ghost use Rattle.history_merge.specs.Initial.{Contents};
 ghost use Rattle.verdicts.specs.Selection.{contents_of};
 ghost use Rattle.conditions.specs.Conditions.{producer_of};
@@ -16,7 +14,7 @@ use std::alloc::{AllocError, Global};
 #[derive(Clone, Copy)]
 pub(crate) struct Produced {
     value: u64,
-    producer: Producer,
+    pub(crate) producer: Producer,
 }
 
 /// Each enqueued value and its producer, sorted by value.
@@ -35,65 +33,20 @@ impl Producers {
         Ok(Producers { by_value })
     }
 
-    /// Returns the place of a value, if it is enqueued. A right guess makes this fast.
-    fn find(&self, guess: usize, value: u64) -> Option<usize>
-        ensures within { IfSome result (λ place. place < length self.now.by_value.items) }
-        ensures found { (whole : Contents) → AreProducers whole self.now.by_value.items
-            → MatchOption result (None ≡ producer_of whole value)
-            (λ place. (d : Produced) → (slice_index_or self.now.by_value.items place d).value ≡ value) }
-    {
-        let by_value = self.by_value.as_slice();
-        if guess < by_value.len() && stands_at(by_value, guess, value) {
-            return Some(guess);
-        }
-        match by_value.binary_search_by_key(&value, |produced| produced.value) {
-            Ok(place) => Some(place),
-            Err(_) => None,
-        }
-    }
-
     /// Returns the producer of a value, if it is enqueued.
-    ///
-    /// A thread's values mostly come in order, so each is first searched just after the previous one of its name.
-    pub(crate) fn producer_of(
-        &self,
-        guesses: &mut [usize],
-        slot: usize,
-        value: u64,
-    ) -> Option<Producer>
+    pub(crate) fn producer_of(&self, value: u64) -> Option<Producer>
         ensures { (whole : Contents) → AreProducers whole self.now.by_value.items → result ≡ producer_of whole value }
     {
-        let place = self.find(guess_in(guesses, slot), value)?;
-        note(guesses, slot, place);
-        Some(self.by_value[place].producer)
-    }
-}
-
-/// Returns whether the value is at this place.
-fn stands_at(by_value: &[Produced], place: usize, value: u64) -> bool
-    requires { place < length by_value.now }
-    ensures { (d : Produced) → IsTrue result ↔ ((slice_index_or by_value.now place d).value ≡ value) }
-{
-    by_value[place].value == value
-}
-
-/// Returns the guess in a slot, or 0.
-fn guess_in(guesses: &[usize], slot: usize) -> usize {
-    match guesses.get(slot) {
-        Some(guess) => *guess,
-        None => 0,
-    }
-}
-
-/// Notes the place of a value. The guess for the next value of the slot is just after it.
-fn note(guesses: &mut [usize], slot: usize, place: usize) {
-    if slot < guesses.len() {
-        guesses[slot] = place.wrapping_add(1);
+        let by_value = self.by_value.as_slice();
+        match by_value.binary_search_by_key(&value, |produced| produced.value) {
+            Ok(place) => Some(by_value[place].producer),
+            Err(_) => None,
+        }
     }
 }
 
 /// Returns the value that an operation enqueues, successfully or not, with its producer.
-fn produced_by(operation: Operation) -> Option<Produced>
+pub(crate) fn produced_by(operation: Operation) -> Option<Produced>
     ensures { result ≡ produced_by operation }
 {
     let value = operation.kind.enqueued_value()?;

@@ -11,7 +11,6 @@ ghost use Rattle.conditions.specs.Inner.Sharing.{AreSharedOut};
 use crate::buckets::{Bucket, share_out};
 use crate::part::{Part, part_of};
 use crate::producer::{Emptiness, Producer};
-use crate::producers::Producers;
 use crate::ranks::{PRODUCERS, marked};
 use history_merge::{History, OpId};
 use std::alloc::{AllocError, Global};
@@ -34,10 +33,8 @@ pub(crate) fn selections_of(
     ensures { IfOk result
         (λ shared. AreSharedOut emptiness (contents_of history.now) shared.used shared.buckets.items) }
 {
-    let producers = Producers::new(alloc, history)?;
-    let operations = history.operations();
-    let used = marked(&operations);
-    let buckets = share_out(alloc, &operations, &producers, emptiness, &used)?;
+    let used = marked(&history.operations());
+    let buckets = share_out(alloc, history, emptiness, &used)?;
     Ok(Selections { used, buckets })
 }
 

@@ -1,25 +1,15 @@
 //! The producers to whose selections operations belong.
-ghost use Rattle.std.specs.Prelude.{◌≡◌, ◌≤◌, IfOk, Some, filter, length, slice_get};
-ghost use Rattle.event_records.specs.declared.limits.TheConstants.{MAX_EVENTS};
+ghost use Rattle.std.specs.Prelude.{◌≡◌, ◌≤◌, ℕ, IfOk, OnOk, Some, filter, slice_get};
 ghost use Rattle.history_merge.specs.declared.operation.Operation.{Operation};
-ghost use Rattle.history_merge.specs.Initial.{Contents};
 ghost use Rattle.history_merge.specs.Legal.{ArePlacesOf};
-ghost use Rattle.conditions.specs.Inner.Producers.{AreProducers, goes_to, share_of, share_of_value};
+ghost use Rattle.history_merge.specs.Operations.{operations_of};
+ghost use Rattle.verdicts.specs.Selection.{contents_of};
+ghost use Rattle.conditions.specs.Inner.Producers.{KnowsProducers, goes_to, share_of, share_of_empty, share_of_value};
 
 use crate::producer::{Emptiness, Producer};
-use crate::producers::Producers;
-use event_records::MAX_THREADS;
-use history_merge::{OpId, OpKind, Operations};
+use crate::search::ProducerSearch;
+use history_merge::{History, OpId, OpKind, Operation};
 use std::alloc::{AllocError, Global};
-
-/// The number of slots for guesses: two for each thread.
-pub(crate) const GUESSES: usize = 2 * MAX_THREADS;
-
-/// Returns the slot for the guess of a value. Values that recorders name for different threads have different slots,
-/// and so have enqueues and dequeues.
-fn slot_of(value: u64, which: usize) -> usize {
-    ((value >> 32) as usize).wrapping_mul(2).wrapping_add(which)
-}
 
 /// The producers to whose selections an operation belongs.
 #[derive(Clone, Copy)]
@@ -52,70 +42,82 @@ fn share_of_value(producer: Option<Producer>) -> Share
     }
 }
 
-/// Returns the producers to whose selections an operation of this kind belongs.
-pub(crate) fn share_of(
-    producers: &Producers,
-    guesses: &mut [usize],
-    emptiness: Emptiness,
-    kind: OpKind,
-) -> Share
-    ensures { (whole : Contents) → AreProducers whole producers.now.by_value.items
-        → result ≡ share_of whole emptiness kind }
+/// Returns the producers to whose selections an empty dequeue belongs.
+fn share_of_empty(emptiness: Emptiness) -> Share
+    ensures { result ≡ share_of_empty emptiness }
 {
-    match kind {
-        OpKind::Enqueue(value) | OpKind::EnqueueFailed(value) => {
-            share_of_value(producers.producer_of(guesses, slot_of(value, 0), value))
-        }
-        OpKind::Dequeue(value) => {
-            share_of_value(producers.producer_of(guesses, slot_of(value, 1), value))
-        }
-        OpKind::DequeueEmpty => match emptiness {
-            Emptiness::Strict => Share::Everybody,
-            Emptiness::Weak => Share::Nobody,
-        },
+    match emptiness {
+        Emptiness::Strict => Share::Everybody,
+        Emptiness::Weak => Share::Nobody,
     }
 }
 
-/// Returns whether the operation at `place` belongs to the producer's selection.
+/// Returns the producers to whose selections the next operation belongs.
+pub(crate) fn share_of(
+    alloc: Global,
+    history: &History,
+    search: &mut ProducerSearch,
+    emptiness: Emptiness,
+    operation: Operation,
+) -> Result<Share, AllocError>
+    requires knows { KnowsProducers (contents_of history.now) search.old }
+    requires among { (place : ℕ) × (slice_get (operations_of history.now.events) place ≡ Some operation) }
+    ensures share { IfOk result (λ share. share ≡ share_of (contents_of history.now) emptiness operation.kind) }
+    ensures knows { OnOk result (KnowsProducers (contents_of history.now) search.new) }
+{
+    search.note_next(history);
+    match operation.kind {
+        OpKind::Enqueue(_) | OpKind::EnqueueFailed(_) => {
+            Ok(Share::Only(Producer::Thread(operation.thread)))
+        }
+        OpKind::Dequeue(value) => {
+            let producer = search.producer_of(alloc, history, value)?;
+            Ok(share_of_value(producer))
+        }
+        OpKind::DequeueEmpty => Ok(share_of_empty(emptiness)),
+    }
+}
+
+/// Returns whether the next operation, that at `place`, belongs to the producer's selection.
 fn is_selected(
-    operations: &Operations<'_>,
+    alloc: Global,
+    history: &History,
+    search: &mut ProducerSearch,
     place: OpId,
-    producers: &Producers,
-    guesses: &mut [usize],
     emptiness: Emptiness,
     producer: Producer,
-) -> bool
-    ensures { (whole : Contents) (o : Operation) → AreProducers whole producers.now.by_value.items
-        → slice_get operations.now place ≡ Some o
-        → result ≡ goes_to producer (share_of whole emptiness o.kind) }
+) -> Result<bool, AllocError>
+    requires { KnowsProducers (contents_of history.now) search.old }
+    ensures selected { IfOk result (λ selected. (o : Operation)
+        → slice_get (operations_of history.now.events) place ≡ Some o
+        → selected ≡ goes_to producer (share_of (contents_of history.now) emptiness o.kind)) }
+    ensures knows { OnOk result (KnowsProducers (contents_of history.now) search.new) }
 {
-    match operations.get(place) {
+    match history.operations().get(place) {
         Some(operation) => {
-            let share = share_of(producers, guesses, emptiness, operation.kind);
-            share.goes_to(producer)
+            let share = share_of(alloc, history, search, emptiness, operation)?;
+            Ok(share.goes_to(producer))
         }
-        None => false,
+        None => Ok(false),
     }
 }
 
 /// Returns the places of the operations that belong to the producer's selection.
 pub(crate) fn places_selected(
     alloc: Global,
-    operations: &Operations<'_>,
-    producers: &Producers,
+    history: &History,
     emptiness: Emptiness,
     producer: Producer,
 ) -> Result<Vec<OpId>, AllocError>
-    requires { length operations.now ≤ MAX_EVENTS }
-    ensures { IfOk result (λ places. (whole : Contents) → AreProducers whole producers.now.by_value.items
-        → ArePlacesOf operations.now places.items
-        (filter (λ o. goes_to producer (share_of whole emptiness o.kind)) operations.now)) }
+    ensures { IfOk result (λ places. ArePlacesOf (operations_of history.now.events) places.items
+        (filter (λ o. goes_to producer (share_of (contents_of history.now) emptiness o.kind))
+        (operations_of history.now.events))) }
 {
-    let mut guesses = [0; GUESSES];
+    let mut search = ProducerSearch::new(alloc, history)?;
     let mut places = Vec::new(alloc);
-    for place in 0..operations.len() {
+    for place in 0..history.operations().len() {
         let id = OpId::new(place as u32);
-        if is_selected(operations, id, producers, &mut guesses, emptiness, producer) {
+        if is_selected(alloc, history, &mut search, id, emptiness, producer)? {
             places.push(id)?;
         }
     }

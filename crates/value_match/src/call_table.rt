@@ -1,5 +1,6 @@
-ghost use Rattle.std.specs.Prelude.{◌≤◌, IfSome, Some, length};
-ghost use Rattle.value_match.specs.Inner.Sources.{IsCallPlace};
+ghost use Rattle.std.specs.Prelude.{◌≡◌, ◌≤◌, IfSome, Some, length};
+ghost use Rattle.history_merge.specs.declared.operation.Operation.{Operation};
+ghost use Rattle.history_merge.specs.Operations.{IsAt, enqueued_value};
 
 use crate::matching::MAX_MATCHED;
 use crate::others::is_called_at;
@@ -26,9 +27,10 @@ const APART: u64 = 324_028;
 /// upper half of a value's bits and counts in the lower half, so values that are enqueued at about the same time have
 /// slots of their own.
 ///
-/// No result depends on this table: `find` only proposes a place, at which it has seen the value's enqueue called.
+/// No verdict depends on this table: it finds only some enqueues, but fast, and callers look for the others elsewhere.
+/// They call [`CallTable::note_next`] for each operation in turn, and [`CallTable::find`] for a dequeue's value.
 #[derive(Drop)]
-pub(crate) struct CallTable {
+pub struct CallTable {
     /// One plus the place of the latest enqueue in each slot, or 0. The last slot belongs to no value.
     above: Vec<u32>,
     /// The mask that takes a value's slot from its bits.
@@ -37,12 +39,12 @@ pub(crate) struct CallTable {
 }
 
 impl CallTable {
-    /// Makes the table of these operations, of which the first are noted. `initial_count` is the number of initial
-    /// values.
+    /// Makes the table of these operations, of which the first 1,024 are noted. `initial_count` is the number of
+    /// initial values, and decides the capacity alone.
     ///
     /// Takes up to a word for each operation, but at most half a MiB, or four words for each initial value if that is
     /// more.
-    pub(crate) fn new(
+    pub fn new(
         alloc: Global,
         operations: &[PackedOperation],
         initial_count: usize,
@@ -64,9 +66,9 @@ impl CallTable {
         Ok(calls)
     }
 
-    /// Notes the next operation.
+    /// Notes the next operation, if there is one.
     #[inline(always)]
-    pub(crate) fn note_next(&mut self, operations: &[PackedOperation]) {
+    pub fn note_next(&mut self, operations: &[PackedOperation]) {
         let Some(operation) = operations.get(self.noted as usize) else {
             return;
         };
@@ -84,10 +86,12 @@ impl CallTable {
         }
     }
 
-    /// Returns the place of the call to enqueue this value, if it is the latest in its slot.
+    /// Returns the place of the call to enqueue this value, if it is the latest in its slot. This looks at the
+    /// operation there.
     #[inline(always)]
-    pub(crate) fn find(&self, operations: &[PackedOperation], value: u64) -> Option<usize>
-        ensures { IfSome result (λ place. IsCallPlace operations.now value (Some place)) }
+    pub fn find(&self, operations: &[PackedOperation], value: u64) -> Option<usize>
+        ensures { IfSome result (λ place. (o : Operation) × IsAt operations.now place o
+            × (enqueued_value o.kind ≡ Some value)) }
     {
         let above = self.above.get(self.slot_of(value))?;
         let place = (*above as usize).checked_sub(1)?;

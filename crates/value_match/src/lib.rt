@@ -18,6 +18,7 @@ mod values;
 mod violation;
 
 pub use accepted::Values;
+pub use call_table::CallTable;
 pub use life::{Life, MatchedValue, NEVER, Source, ticket_of};
 pub use matching::{MAX_MATCHED, Matched, Matching};
 pub use places::Places;

@@ -11,11 +11,10 @@ use Rattle.verdicts.specs.Selection.{contents_of}
 use Rattle.conditions.specs.declared.producer.Emptiness.{Emptiness}
 use Rattle.conditions.specs.declared.producer.Producer.{Producer}
 use Rattle.conditions.specs.declared.producer.Producer.TheVariants.{Initial, Thread}
-use Rattle.conditions.specs.declared.producers.Produced.{Produced}
 use Rattle.conditions.specs.declared.ranks.TheConstants.{PRODUCERS}
 use Rattle.conditions.specs.declared.sharing.Share.{Share}
 use Rattle.conditions.specs.Conditions.{selection_of}
-use Rattle.conditions.specs.Inner.Producers.{AreProducers, goes_to, share_of}
+use Rattle.conditions.specs.Inner.Producers.{goes_to, share_of}
 
 -- the producer of this rank, its place among all producers
 abbrev pub ranked : ℕ → Producer
@@ -48,13 +47,12 @@ pub record IsSharedOut (share : Share) (used : List Bool) (place : ℕ) (before 
   pub each : (k : ℕ) → k < length before → slice_index_or used k false ≡ true
       → slice_index_or after k [] ≡ slice_index_or before k [] ++ (if goes_to (ranked k) share then place ∷ [] else [])
 
--- for each producer in use the places of its operations among the first ones, whatever the producers of these values
--- are
-abbrev pub HasSharedOut : List Operation → ℕ → List Bool → List Produced → Emptiness → List (List ℕ) → Type 0
-HasSharedOut operations count used by_value emptiness buckets = (length buckets ≡ PRODUCERS)
-    × ((whole : Contents) → AreProducers whole by_value → (k : ℕ) → k < PRODUCERS → slice_index_or used k false ≡ true
-    → ArePlacesOf operations (slice_index_or buckets k [])
-    (filter (λ o. goes_to (ranked k) (share_of whole emptiness o.kind)) (take count operations)))
+-- for each producer in use the places of its operations among the first ones
+abbrev pub HasSharedOut : Contents → ℕ → List Bool → Emptiness → List (List ℕ) → Type 0
+HasSharedOut whole count used emptiness buckets = (length buckets ≡ PRODUCERS)
+    × ((k : ℕ) → k < PRODUCERS → slice_index_or used k false ≡ true
+    → ArePlacesOf whole.operations (slice_index_or buckets k [])
+    (filter (λ o. goes_to (ranked k) (share_of whole emptiness o.kind)) (take count whole.operations)))
 
 -- for each producer in use the places of its selection
 pub record AreSharedOut (emptiness : Emptiness) (whole : Contents) (used : List Bool)
