@@ -131,7 +131,11 @@ added_more number level block next before now new within fits was is halves = re
           ∙ (λ i. get_or (was.left level (omega arith) i) (sym same i) 0 + cond (sym (eq-eqb (halved number level) j (sym was.here ∙ sym same)) i) 1 0)
       | inr other ↦
           get_or-set_other (get_or now level []) block j _ 0 other
-          ∙ omega (arith, ap (λ l. get_or l j 0) (was.left level (omega arith)), ap {B = ℕ} (λ b. cond b 1 0) (ne_eqb (halved number level) j (λ e. other (sym e ∙ sym was.here))))
+          ∙ omega (
+            arith,
+            ap (λ l. get_or l j 0) (was.left level (omega arith)),
+            ap {B = ℕ} (λ b. cond b 1 0) (ne_eqb (halved number level) j (λ e. other (sym e ∙ sym was.here))),
+          )
     ]
 
     done : (k j : ℕ) → k < level + 1

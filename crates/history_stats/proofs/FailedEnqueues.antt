@@ -205,7 +205,8 @@ module _ (first : ℕ) (arrivals departures : List ℕ) where
       here : (b : Bool) → is_failed_enqueue o.kind ≡ b
           → list_any p (cons_option (cond b (Some (window_of first arrivals departures o)) None)
           (windows_of first arrivals departures rest)) ≡ true
-          → (list_any p (windows_of first arrivals departures rest) ≡ true → (z : Operation) × IsFailedEnqueue rest z × (p (window_of first arrivals departures z) ≡ true))
+          → (list_any p (windows_of first arrivals departures rest) ≡ true
+          → (z : Operation) × IsFailedEnqueue rest z × (p (window_of first arrivals departures z) ≡ true))
           → (z : Operation) × IsFailedEnqueue (o ∷ rest) z × (p (window_of first arrivals departures z) ≡ true)
       here false not_so any more = later (more any)
       here true so any more = passes (p (window_of first arrivals departures o)) refl any
@@ -232,7 +233,8 @@ module _ (first : ℕ) (arrivals departures : List ℕ) where
           → list_any p (cons_option (cond b (Some (window_of first arrivals departures x)) None)
           (windows_of first arrivals departures rest)) ≡ false
           → Contains (x ∷ rest) o
-          → (list_any p (windows_of first arrivals departures rest) ≡ false → (z : Operation) → IsFailedEnqueue rest z → p (window_of first arrivals departures z) ≡ false)
+          → (list_any p (windows_of first arrivals departures rest) ≡ false
+          → (z : Operation) → IsFailedEnqueue rest z → p (window_of first arrivals departures z) ≡ false)
           → p (window_of first arrivals departures o) ≡ false
       here b so none among more = elim (at among.0 among.1 among.2) [
         | inl same ↦ it b (sym so ∙ ap (λ (z : Operation). is_failed_enqueue z.kind) same ∙ failed.1) none same

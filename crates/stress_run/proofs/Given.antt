@@ -1,6 +1,6 @@
 -- A crew in which each worker has the ends of its row.
-use Rattle.std.proofs.Common.{◌≡◌, ℕ, ◌+◌, ◌<◌, ◌≤◌, ◌⊎◌, inl, inr, List, [], ◌∷◌, ◌++◌, length, All, Contains, Option, None, refl, ap, sym, subst, ◌∙◌, arith}
-use Rattle.std.proofs.Common.{get_or, take, add-one}
+use Rattle.std.proofs.Common.{◌≡◌, ℕ, ◌+◌, ◌<◌, ◌≤◌, ◌⊎◌, inl, inr, List, [], ◌∷◌, ◌++◌, length, All, Contains}
+use Rattle.std.proofs.Common.{Option, None, refl, ap, sym, subst, ◌∙◌, arith, get_or, take, add-one}
 use Rattle.std.proofs.Math.Seq.{take-suc}
 use Rattle.std.proofs.lemmas.List.{get_or_default, get_or_read, take_all}
 use Rattle.std.specs.List.{AllZip}
@@ -60,7 +60,8 @@ module _ (all : EndsView) (rows : List (List Kind)) (roles : (all ≡ no_ends) �
 
   -- after one more worker is made, which took the ends of its row
   pub given_more : (own left' : EndsView) (w : WorkerView) (workers' : List WorkerView) → All (λ kind. end_for kind own ≡ end_for kind left) row
-      → ((kind : Kind) → (end_for kind left' ≡ end_for kind left) ⊎ ((end_for kind left' ≡ None) × Contains row kind)) → w.ends ≡ own → workers' ≡ workers ++ w ∷ []
+      → ((kind : Kind) → (end_for kind left' ≡ end_for kind left) ⊎ ((end_for kind left' ≡ None) × Contains row kind))
+      → w.ends ≡ own → workers' ≡ workers ++ w ∷ []
       → IsGiving all rows (place + 1) left' workers'
   given_more own left' w workers' took leaves has more = record {
     given = subst (AllZip (HasItsEnds all) (take (place + 1) rows)) (sym more)

@@ -190,7 +190,8 @@ module _ (setup : Setup) where
         record {
           log = r.1.log;
           logged = logged_push n r.1.log (set s.views id w) new (logged_same n n r.1.log s.views id v w (omega arith) r.1.logged at refl refl (λ e. e)) refl refl;
-          nodes = beside_split setup _ _ s.views r.1.nodes id v w new at (omega arith) (omega arith) (omega arith) (λ _ _ _ fits. (tt, fits)) (λ _ _ _ fits. (tt, fits)) refl refl;
+          nodes = beside_split setup _ _ s.views r.1.nodes id v w new at (omega arith) (omega arith) (omega arith)
+              (λ _ _ _ fits. (tt, fits)) (λ _ _ _ fits. (tt, fits)) refl refl;
         },
       )
 
@@ -204,7 +205,8 @@ module _ (setup : Setup) where
         record {
           log = r.1.log;
           logged = logged_push n r.1.log (set s.views id w) new (logged_same n n r.1.log s.views id v w (omega arith) r.1.logged at refl refl (λ e. e)) refl refl;
-          nodes = beside_split setup _ _ s.views r.1.nodes id v w new at (omega arith) (omega arith) (omega arith) (λ _ _ _ fits. (fits, tt)) (λ _ _ _ fits. (tt, fits)) refl refl;
+          nodes = beside_split setup _ _ s.views r.1.nodes id v w new at (omega arith) (omega arith) (omega arith)
+              (λ _ _ _ fits. (fits, tt)) (λ _ _ _ fits. (tt, fits)) refl refl;
         },
       )
 

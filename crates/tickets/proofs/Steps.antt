@@ -264,7 +264,8 @@ module _ (setup : Setup) where
           log = r.1.log;
           logged = logged_push (get_or s.words 0 0) r.1.log (set s.views id w) new
               (logged_same (get_or s.words 0 0) (get_or s.words 0 0) r.1.log s.views id v w (omega arith) r.1.logged at refl refl (λ e. e)) refl refl;
-          nodes = beside_split setup _ _ s.views r.1.nodes id v w new at (omega arith) (omega arith) (omega arith) (λ _ _ _ fits. (fits, tt)) (λ _ _ _ fits. (fits, tt)) refl refl;
+          nodes = beside_split setup _ _ s.views r.1.nodes id v w new at (omega arith) (omega arith) (omega arith)
+              (λ _ _ _ fits. (fits, tt)) (λ _ _ _ fits. (fits, tt)) refl refl;
         },
       )
 
