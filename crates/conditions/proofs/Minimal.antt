@@ -137,7 +137,8 @@ producer_kept values empties whole v selected =
     let enqueue : find (enqueues v) (filter (selects values empties) whole.operations) ≡ find (enqueues v) whole.operations =
     found_alike (enqueues v) (selects values empties) whole.operations
     (λ o is. selects_as_value values empties o v (enqueues_own o.kind v (value_told (enqueued_value o.kind) v is)) ∙ selected) in
-    ap (λ (b : Bool). (if b then Some Initial else option_map (λ (o : Operation). Thread o.thread) (find (enqueues v) (filter (selects values empties) whole.operations)))) initial
+    ap (λ (b : Bool). (if b then Some Initial else option_map (λ (o : Operation). Thread o.thread) (find (enqueues v)
+    (filter (selects values empties) whole.operations)))) initial
     ∙ ap (λ (o : Option Operation). (if is_initial whole.initial v then Some Initial else option_map (λ (o : Operation). Thread o.thread) o)) enqueue
 
 -- a value of a producer's selection counts for the producer in a selection of that

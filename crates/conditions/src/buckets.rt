@@ -1,6 +1,6 @@
 //! Places of operations, by the producers to whose selections the operations belong.
 ghost use Rattle.std.specs.Prelude.{◌≡◌, ◌<◌, ◌++◌, ◌∷◌, ℕ, [], IfOk, OnOk, false, length, nat_eq};
-ghost use Rattle.std.specs.Prelude.{slice_index_or, true, vec_len, if◌then◌else◌};
+ghost use Rattle.std.specs.Prelude.{slice_index_or, true, if◌then◌else◌};
 ghost use Rattle.history_merge.specs.Operations.{operations_of};
 ghost use Rattle.verdicts.specs.Selection.{contents_of};
 ghost use Rattle.conditions.specs.Inner.Sharing.{AreMarked, AreSharedOut, IsSharedOut};

@@ -1,5 +1,5 @@
 //! The producers to whose selections operations belong.
-ghost use Rattle.std.specs.Prelude.{◌≡◌, ◌≤◌, ℕ, IfOk, OnOk, Some, filter, slice_get};
+ghost use Rattle.std.specs.Prelude.{◌≡◌, ℕ, IfOk, OnOk, Some, filter, slice_get};
 ghost use Rattle.history_merge.specs.declared.operation.Operation.{Operation};
 ghost use Rattle.history_merge.specs.Legal.{ArePlacesOf};
 ghost use Rattle.history_merge.specs.Operations.{operations_of};

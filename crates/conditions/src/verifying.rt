@@ -3,7 +3,6 @@ ghost use Rattle.std.specs.Prelude.{◌↔◌, ◌≡◌, ◌≤◌, IfOk, IsTru
 ghost use Rattle.event_records.specs.declared.limits.TheConstants.{MAX_INITIAL};
 ghost use Rattle.history_merge.specs.Initial.{IsCompleteFrom};
 ghost use Rattle.history_merge.specs.Legal.{IsLegalOrder};
-ghost use Rattle.history_merge.specs.Operations.{operations_of};
 ghost use Rattle.claims.specs.Claims.{IsTrueClaim};
 ghost use Rattle.verdicts.specs.Selection.{contents_of};
 ghost use Rattle.claims.specs.declared.claimed.ClaimLine.{ClaimLine};
